@@ -1,0 +1,5 @@
+pub mod Ranges
+pub mod Figures
+pub mod Kinds
+pub mod Refusals
+pub mod Classes
