@@ -33,7 +33,12 @@ fn push_after_blank(heap: Global, out: &mut String, cell: Cell) -> Result<(), Al
 }
 
 // A row: its first word, its cells, and the end of the line.
-pub(crate) fn push_row(heap: Global, out: &mut String, first: Word, cells: &[Cell]) -> Result<(), AllocError>
+pub(crate) fn push_row(
+    heap: Global,
+    out: &mut String,
+    first: Word,
+    cells: &[Cell],
+) -> Result<(), AllocError>
     ensures { λ r. ⌜ made r (λ _. string-bytes (now (out .exit)) ≡ string-bytes (now (out .entry)) ++ row-text first (now (cells .entry))) ⌝ }
 {
     out.push_str(first.text())?;

@@ -46,8 +46,20 @@ fn note(pairs: &mut Vec<Pair>, p: Pair) -> Result<(), AllocError>
 fn note_order(pairs: &mut Vec<Pair>, o: &OrderLine) -> Result<(), AllocError>
     ensures { λ r. ⌜ made r (λ _. vec-items (now (pairs .exit)) ≡ noted-order (vec-items (now (pairs .entry))) (now (o .entry))) ⌝ }
 {
-    note(pairs, Pair { account: o.account, item: o.security })?;
-    note(pairs, Pair { account: o.account, item: 0 })
+    note(
+        pairs,
+        Pair {
+            account: o.account,
+            item: o.security,
+        },
+    )?;
+    note(
+        pairs,
+        Pair {
+            account: o.account,
+            item: 0,
+        },
+    )
 }
 
 fn note_line(pairs: &mut Vec<Pair>, line: &Line) -> Result<(), AllocError>
@@ -55,7 +67,13 @@ fn note_line(pairs: &mut Vec<Pair>, line: &Line) -> Result<(), AllocError>
 {
     match line {
         Line::Entry(o) | Line::Deal(o, _) | Line::Cancel(o, _) => note_order(pairs, o),
-        Line::PaidIn(p) | Line::DrawnOut(p) => note(pairs, Pair { account: p.account, item: p.item }),
+        Line::PaidIn(p) | Line::DrawnOut(p) => note(
+            pairs,
+            Pair {
+                account: p.account,
+                item: p.item,
+            },
+        ),
     }
 }
 

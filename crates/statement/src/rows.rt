@@ -79,13 +79,26 @@ fn net_cells(p: Pair, m: Movement) -> [Cell; 10]
     ]
 }
 
-pub(crate) fn push_heading<T: ReadingTape>(heap: Global, out: &mut String, tape: &T) -> Result<(), AllocError>
+pub(crate) fn push_heading<T: ReadingTape>(
+    heap: Global,
+    out: &mut String,
+    tape: &T,
+) -> Result<(), AllocError>
     ensures { λ r. ⌜ made r (λ _. string-bytes (now (out .exit)) ≡ string-bytes (now (out .entry)) ++ heading-row (T·Tape .contents (now (tape .entry)))) ⌝ }
 {
-    push_row(heap, out, Word::Tape, &heading_cells(tape.date(), tape.count()))
+    push_row(
+        heap,
+        out,
+        Word::Tape,
+        &heading_cells(tape.date(), tape.count()),
+    )
 }
 
-pub(crate) fn push_lines<T: ReadingTape>(heap: Global, out: &mut String, tape: &T) -> Result<(), AllocError>
+pub(crate) fn push_lines<T: ReadingTape>(
+    heap: Global,
+    out: &mut String,
+    tape: &T,
+) -> Result<(), AllocError>
     ensures { λ r. ⌜ made r (λ _. string-bytes (now (out .exit)) ≡ string-bytes (now (out .entry)) ++ line-rows 0 (T·Tape .contents (now (tape .entry)) .lines)) ⌝ }
 {
     for k in 0..tape.count() {
@@ -98,7 +111,12 @@ pub(crate) fn push_lines<T: ReadingTape>(heap: Global, out: &mut String, tape: &
     Ok(())
 }
 
-pub(crate) fn push_nets<T: ReadingTape>(heap: Global, out: &mut String, tape: &T, pairs: &[Pair]) -> Result<(), AllocError>
+pub(crate) fn push_nets<T: ReadingTape>(
+    heap: Global,
+    out: &mut String,
+    tape: &T,
+    pairs: &[Pair],
+) -> Result<(), AllocError>
     ensures { λ r. ⌜ made r (λ _. string-bytes (now (out .exit)) ≡ string-bytes (now (out .entry)) ++ joined (net-row (T·Tape .contents (now (tape .entry)) .lines)) (now (pairs .entry))) ⌝ }
 {
     for p in pairs {

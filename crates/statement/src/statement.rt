@@ -34,7 +34,12 @@ fn refusal_text(heap: Global, refusal: Refusal) -> Result<String, AllocError>
     ensures { λ r. ⌜ made r (λ s. string-bytes s ≡ refusal-row refusal) ⌝ }
 {
     let mut out = String::new(heap);
-    push_row(heap, &mut out, Word::Refused, &[Cell::Figure(refusal.number() as u64)])?;
+    push_row(
+        heap,
+        &mut out,
+        Word::Refused,
+        &[Cell::Figure(refusal.number() as u64)],
+    )?;
     Ok(out)
 }
 

@@ -147,13 +147,25 @@ pub(crate) fn order_words(line: &Line) -> OrderWords
 {
     match line {
         Line::Entry(o) | Line::Deal(o, _) => {
-            OrderWords { side: side_word(o.side), kind: order_word(o.kind), reason: Word::Nobody }
+            OrderWords {
+                side: side_word(o.side),
+                kind: order_word(o.kind),
+                reason: Word::Nobody,
+            }
         }
         Line::Cancel(o, why) => {
-            OrderWords { side: side_word(o.side), kind: order_word(o.kind), reason: reason_word(*why) }
+            OrderWords {
+                side: side_word(o.side),
+                kind: order_word(o.kind),
+                reason: reason_word(*why),
+            }
         }
         Line::PaidIn(_) | Line::DrawnOut(_) => {
-            OrderWords { side: Word::Nobody, kind: Word::Nobody, reason: Word::Nobody }
+            OrderWords {
+                side: Word::Nobody,
+                kind: Word::Nobody,
+                reason: Word::Nobody,
+            }
         }
     }
 }

@@ -23,5 +23,5 @@ returns c =
     let all : take (c .loop-cell .cell-index) cs ≡ cs = take-all _ cs (c .loop-cell-test .left) in
     let first : string-bytes (c .push-str .last .self) ≡ s ++ w = c .in-Continue-push-str .ensures tt .bytes ∙ ap (λ (v : List ℕ). s ++ v) (c .text .ensures) in
     let a : string-bytes (c .loop-cell .out) ≡ s ++ (w ++ joined after-blank cs) =
-      c .loop-cell .inv ∙ ap (λ (v : List Cell). string-bytes (c .push-str .last .self) ++ joined after-blank v) all ∙ ap (λ (v : List ℕ). v ++ joined after-blank cs) first ∙ append-assoc s w (joined after-blank cs) in
+    c .loop-cell .inv ∙ ap (λ (v : List Cell). string-bytes (c .push-str .last .self) ++ joined after-blank v) all ∙ ap (λ (v : List ℕ). v ++ joined after-blank cs) first ∙ append-assoc s w (joined after-blank cs) in
     pushed-made (c .push-str-2 .result) s (string-bytes (c .loop-cell .out)) (string-bytes (c .push-str-2 .last .self)) (w ++ joined after-blank cs) (10 ∷ []) a (c .push-str-2 .ensures .bytes)

@@ -23,8 +23,8 @@ loop-p-again g c =
     let a = string-bytes (c .loop-p .out) in
     joined-turn (net-row ls) (string-bytes (c .args .out .now)) a (string-bytes (c .push-row .last .out)) ps (c .loop-p .p-index) (pair 0 0) (c .loop-p-test .taken) (c .loop-p .inv)
     (c .in-Continue-push-row .ensures tt
-      ∙ ap (λ (v : List Cell). a ++ row-text Net v) (c .net-cells .ensures)
-      ∙ ap (λ (v : Movement). a ++ row-text Net (net-cells p v)) (c .movement-of-m .ensures))
+    ∙ ap (λ (v : List Cell). a ++ row-text Net v) (c .net-cells .ensures)
+    ∙ ap (λ (v : Movement). a ++ row-text Net (net-cells p v)) (c .movement-of-m .ensures))
 
 pub returns : need.returns
 returns g c =

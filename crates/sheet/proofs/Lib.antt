@@ -1,0 +1,9 @@
+pub mod Gathering
+pub mod Announcing
+pub mod Closing
+pub mod Counting
+pub mod Spelling
+pub mod Naming
+pub mod Writing
+pub mod Reread
+pub mod Rereading
