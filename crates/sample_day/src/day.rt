@@ -7,7 +7,7 @@ use tape::Line;
 use tape::OrderLine;
 use tape::PaymentLine;
 
-pub const DATE: u32 = 20_110_831;
+pub(crate) const DATE: u32 = 20_110_831;
 
 const BOND: u32 = 112_001;
 
@@ -60,7 +60,7 @@ fn intention(time: u32) -> OrderLine {
 }
 
 // The lines of the day. The quote's rest of 4,000 is below the least size, so it is cancelled.
-pub fn lines() -> [Line; 10] {
+pub(crate) fn lines() -> [Line; 10] {
     [
         Line::PaidIn(PaymentLine {
             account: 1_001,

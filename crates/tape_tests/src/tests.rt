@@ -1,17 +1,21 @@
-use crate::example_quote;
 use byte_tape::BlankBytes;
 use byte_tape::ByteTape;
 use byte_tape::ByteTapeReadingTape;
 use byte_tape::ByteTapeTape;
 use byte_tape::TapeBytes;
 use market::CancelReason;
+use market::OrderKind;
+use market::Price;
+use market::Quantity;
 use market::Refusal;
 use market::RefusalDebug;
 use market::RefusalPartialEq;
+use market::Side;
 use std::alloc::Global;
 use std::test::*;
 use tape::Line;
 use tape::LinePartialEq;
+use tape::OrderLine;
 use tape::PaymentLine;
 use tape::ReadingTape;
 use tape::RecordTape;
@@ -70,6 +74,22 @@ const CANCELLED: [u8; 48] = [
     133,
     152, // time
 ];
+
+// A firm quote with a different number in each field.
+fn example_quote() -> OrderLine {
+    OrderLine {
+        side: Side::Sell,
+        kind: OrderKind::FirmQuote,
+        unit: 66_051,
+        serial: 67_438_087,
+        security: 396_294,
+        account: 4_328_719_365,
+        quantity: Quantity::new(10_000),
+        price: Price::new(99_900),
+        agreement: 99_999_998,
+        time: 34_200,
+    }
+}
 
 fn blank(heap: Global, bytes: usize) -> Result<ByteTape, Fail> {
     let buffer = vec![in heap; 7u8; bytes]?;
