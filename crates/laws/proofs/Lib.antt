@@ -1,0 +1,4 @@
+pub mod Doing
+pub mod Needing
+pub mod Naming
+pub mod Stepping

@@ -1,0 +1,9 @@
+pub mod Orders
+pub mod State
+pub mod Listing
+pub mod Checks
+pub mod Dealing
+pub mod Effects
+pub mod Calls
+pub mod Plain
+pub mod Worked
