@@ -2,3 +2,5 @@ pub mod Doing
 pub mod Needing
 pub mod Naming
 pub mod Stepping
+pub mod Entering
+pub mod Accepting

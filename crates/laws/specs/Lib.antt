@@ -1,3 +1,4 @@
 pub mod Days
 pub mod Accounts
 pub mod Sound
+pub mod Accepted

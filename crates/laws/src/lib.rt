@@ -1,4 +1,5 @@
 // The laws of events. Each function answers nothing: its promise is the law.
+ghost use Rattle.laws.specs.Accepted.{Entries-valid, Cancels-valid, Payments-in-valid, Payments-out-valid, Closes-valid};
 ghost use Rattle.laws.specs.Sound.{Step-sound, Run-sound, Orders-whole, Moves-granted};
 
 // A valid event keeps a day sound: held is what live orders need, what an account has is what it began
@@ -16,4 +17,13 @@ pub fn orders_are_told_whole()
 // On a sound day the ledger refuses nothing that a valid event asks of it.
 pub fn moves_are_granted()
     ensures { λ _. ⌜ Moves-granted ⌝ }
+{}
+
+// The events of every accepted call are valid, one after the other; a close leaves nothing live.
+pub fn accepted_calls_yield_valid_events()
+    ensures entries { λ _. ⌜ Entries-valid ⌝ }
+    ensures cancels { λ _. ⌜ Cancels-valid ⌝ }
+    ensures payments_in { λ _. ⌜ Payments-in-valid ⌝ }
+    ensures payments_out { λ _. ⌜ Payments-out-valid ⌝ }
+    ensures closes { λ _. ⌜ Closes-valid ⌝ }
 {}
