@@ -4,3 +4,4 @@ pub mod Naming
 pub mod Stepping
 pub mod Entering
 pub mod Accepting
+pub mod Pairing

@@ -1,5 +1,6 @@
 // The laws of events. Each function answers nothing: its promise is the law.
 ghost use Rattle.laws.specs.Accepted.{Entries-valid, Cancels-valid, Payments-in-valid, Payments-out-valid, Closes-valid};
+ghost use Rattle.laws.specs.Paired.{Deals-paired};
 ghost use Rattle.laws.specs.Sound.{Step-sound, Run-sound, Orders-whole, Moves-granted};
 
 // A valid event keeps a day sound: held is what live orders need, what an account has is what it began
@@ -26,4 +27,9 @@ pub fn accepted_calls_yield_valid_events()
     ensures payments_in { λ _. ⌜ Payments-in-valid ⌝ }
     ensures payments_out { λ _. ⌜ Payments-out-valid ⌝ }
     ensures closes { λ _. ⌜ Closes-valid ⌝ }
+{}
+
+// Valid events number the deals 1, 2, 3 and so on, each in one buying and one selling line that agree.
+pub fn deals_are_paired()
+    ensures { λ _. ⌜ Deals-paired ⌝ }
 {}
