@@ -1,4 +1,6 @@
 // What the lines of a sheet are answered, and the rows of text that say so.
+#![tactic(auto)]
+
 mod answer;
 mod rows;
 mod words;

@@ -1,5 +1,7 @@
 // What follows once an order stands in the table: it waits, meets its partner, or clicks on a quote. And the line that
 // tells of an order.
+#![tactic(auto)]
+
 mod clicking;
 mod deciding;
 mod fitting;

@@ -1,4 +1,6 @@
 // Reads the answers to a sheet from standard input and prints them with their meaning beside them.
+#![tactic(auto)]
+
 use explaining::explained;
 use std::io;
 use std::io::{Read, Write};

@@ -1,4 +1,6 @@
 // Refusals in words, and the answers to a sheet with their meaning beside them.
+#![tactic(auto)]
+
 mod meaning;
 mod notes;
 mod rows;

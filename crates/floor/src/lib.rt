@@ -1,4 +1,6 @@
 // The floor: an order table, a ledger and a tape, and the six calls that change them.
+#![tactic(auto)]
+
 mod cancelling;
 mod day;
 mod dealing;

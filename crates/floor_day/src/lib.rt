@@ -1,4 +1,6 @@
 // The day of a floor, apart from its ledger and its tape: its tables, and the checks of the calls against them.
+#![tactic(auto)]
+
 mod cancels;
 mod entries;
 mod openings;

@@ -1,4 +1,6 @@
 // The laws of events. Each function answers nothing: its promise is the law.
+#![tactic(auto)]
+
 ghost use Rattle.laws.specs.Accepted.{EntriesValid, CancelsValid, PaymentsInValid, PaymentsOutValid, ClosesValid};
 ghost use Rattle.laws.specs.Agreed.{EntriesAgreed};
 ghost use Rattle.laws.specs.Dealings.{NegotiatedLaw, ClickLaw, NumbersLaw};

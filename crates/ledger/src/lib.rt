@@ -1,4 +1,6 @@
 // What a ledger means, whatever it is made of: the trait that every ledger keeps, and what follows from it.
+#![tactic(auto)]
+
 mod asking;
 mod ledger;
 mod moving;

@@ -1,4 +1,6 @@
 // A ledger that keeps one record for each open pair.
+#![tactic(auto)]
+
 mod holding;
 mod keeping;
 mod line;

@@ -1,4 +1,6 @@
 // Questions over the tables of a floor: its orders, their names, the numbers agreed, the securities of the day.
+#![tactic(auto)]
+
 mod numbers;
 mod orders;
 mod places;

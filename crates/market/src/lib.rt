@@ -1,4 +1,6 @@
 // The figures, kinds, classes and refusals of the negotiated block market.
+#![tactic(auto)]
+
 mod amount;
 mod class;
 mod kinds;

@@ -1,5 +1,7 @@
 // What a marker reads off a tape: the orders that it names, how each was dealt and cancelled, and whether its
 // deals are paired.
+#![tactic(auto)]
+
 mod account;
 mod deals;
 mod names;

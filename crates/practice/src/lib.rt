@@ -1,4 +1,6 @@
 // A sheet practised over a floor: every line is answered.
+#![tactic(auto)]
+
 mod answering;
 mod asking;
 mod gathered;

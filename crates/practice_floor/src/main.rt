@@ -1,4 +1,6 @@
 // Reads a sheet from standard input, runs it over a new floor, and prints what each line was answered.
+#![tactic(auto)]
+
 use sheet_run::answers_to;
 use std::io;
 use std::io::{Read, Write};

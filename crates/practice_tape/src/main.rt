@@ -1,4 +1,6 @@
 // Reads a sheet from standard input, runs it over a new floor, and writes the bytes of its tape.
+#![tactic(auto)]
+
 use sheet_tape::tape_of;
 use std::io;
 use std::io::{Read, Write};

@@ -1,4 +1,6 @@
 // Runs the trial sheets of its folder, each over a new floor, and prints what every line was answered.
+#![tactic(auto)]
+
 use sheet_run::answers_to;
 use std::io::Write;
 use std::{fs, io};

@@ -1,4 +1,6 @@
 // Reads a tape in bytes from standard input and prints its statement.
+#![tactic(auto)]
+
 use statement::reconciled;
 use std::io;
 use std::io::{Read, Write};

@@ -1,4 +1,6 @@
 // Requests as they come, judged by their figures: what is in range is handed on in its own type.
+#![tactic(auto)]
+
 mod cancelling;
 mod classing;
 mod entering;

@@ -1,4 +1,6 @@
 // Rows of text: a first word, then cells, each after a blank.
+#![tactic(auto)]
+
 mod cells;
 mod words;
 

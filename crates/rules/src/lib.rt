@@ -1,4 +1,6 @@
 // The rules of the floor: orders, requests, events, and what each call is answered.
+#![tactic(auto)]
+
 mod event;
 mod order;
 mod request;

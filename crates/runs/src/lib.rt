@@ -1,4 +1,6 @@
 // Any call of the floor as one, and whole runs of calls.
+#![tactic(auto)]
+
 mod call;
 mod running;
 

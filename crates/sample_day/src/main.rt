@@ -1,4 +1,6 @@
 // Writes the tape of a small day to standard output.
+#![tactic(auto)]
+
 mod day;
 
 use byte_tape::{BlankBytes, ByteTape};

@@ -1,5 +1,7 @@
 // A reader over the bytes of a sheet. It hands out one line at a time: an order, a cancel, a set-up
 // line, or why the line is refused.
+#![tactic(auto)]
+
 mod building;
 mod codes;
 mod fault;

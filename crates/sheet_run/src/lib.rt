@@ -1,4 +1,6 @@
 // The sheet program as a function: bytes of a sheet to the text of its answers.
+#![tactic(auto)]
+
 ghost use Rattle.std.specs.Prelude.{IfOk, string_bytes};
 ghost use Rattle.sheet_run.specs.Printing.{begun, Printed};
 

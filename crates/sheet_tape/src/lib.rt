@@ -1,4 +1,6 @@
 // A sheet run over two houses and a tape in bytes, and the bytes of that tape.
+#![tactic(auto)]
+
 ghost use Rattle.std.specs.Prelude.{IfOk};
 ghost use Rattle.sheet_tape.specs.Taping.{begun, Taped};
 

@@ -1,4 +1,6 @@
 // Tests of the sheet reader, and a loop over it.
+#![tactic(auto)]
+
 ghost use Rattle.std.specs.Prelude.{◌≡◌};
 ghost use Rattle.sheet_tests.specs.Counts.{line_count};
 

@@ -1,4 +1,6 @@
 // Texts of a sheet: its lines, and the figures in them.
+#![tactic(auto)]
+
 mod cuts;
 mod figures;
 mod lines;

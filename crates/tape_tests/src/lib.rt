@@ -1,3 +1,5 @@
 // Examples of tapes, as tests.
+#![tactic(auto)]
+
 #[cfg(test)]
 mod tests;
