@@ -7,7 +7,7 @@ use Rattle.ledger.proofs.moving.drawn_out.Goals as goal
 pub returns : goal.returns
 returns g c =
     let m = g.L.Ledger.book c.args.ledger.now in
-    let e = c.draw-out.ensures in
+    let e = c.draw_out.ensures in
     let k = draw_out_law m c.args.account c.args.item c.args.n (g.met.L.Ledger.lawful c.args.ledger.now) in
     record {
       answer = e.answer;

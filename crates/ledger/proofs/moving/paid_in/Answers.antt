@@ -7,7 +7,7 @@ use Rattle.ledger.proofs.moving.paid_in.Goals as goal
 pub returns : goal.returns
 returns g c =
     let m = g.L.Ledger.book c.args.ledger.now in
-    let e = c.pay-in.ensures in
+    let e = c.pay_in.ensures in
     let k = pay_in_law m c.args.account c.args.item c.args.n (g.met.L.Ledger.lawful c.args.ledger.now) in
     record {
       answer = e.answer;

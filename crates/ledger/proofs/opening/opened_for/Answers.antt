@@ -16,5 +16,5 @@ returns-then-item-from g c =
 
 pub returns : goal.returns
 returns g c =
-    let e = c.open-pair.ensures in
+    let e = c.open_pair.ensures in
     record { answer = e.answer; after = e.after; room = e.room; figures = e.figures }

@@ -13,4 +13,4 @@ returns c =
       | then-loop-i-test+else-text-i w ↦ to_byte _ _ _ c.loop-i.invariant w.loop-i-test.true w.if-text-i.false
       | else-loop-i-test w ↦ to_end _ _ _ c.loop-i.invariant w.loop-i-test.false
     ] in
-    record { front = c.split-at.ensures.front ∙ h.0; back = c.split-at.ensures.back ∙ h.1 }
+    record { front = c.split_at.ensures.front ∙ h.0; back = c.split_at.ensures.back ∙ h.1 }

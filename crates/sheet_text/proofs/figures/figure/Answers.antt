@@ -11,15 +11,15 @@ returns-then-b-lt48 c =
       | then-b-lt48-via-else-b-lt48+then-b-gt57 w ↦ too_high _ w.if-b-gt57.true
     ]))
 
-pub overflow-mul-n : goal.overflow-mul-n
-overflow-mul-n c = omega (arith, room _ _ _ c.loop-b.invariant (omega arith))
+pub overflow_mul-n : goal.overflow_mul-n
+overflow_mul-n c = omega (arith, room _ _ _ c.loop-b.invariant (omega arith))
 
-pub overflow-add-n : goal.overflow-add-n
-overflow-add-n c = omega (arith, room _ _ _ c.loop-b.invariant (omega arith))
+pub overflow_add-n : goal.overflow_add-n
+overflow_add-n c = omega (arith, room _ _ _ c.loop-b.invariant (omega arith))
 
 pub loop-b-preserved : goal.loop-b-preserved
 loop-b-preserved c = one_more _ _ _ c.loop-b.invariant c.loop-b-test.true c.if-b-lt48.false c.if-b-gt57.false
 
 pub returns : goal.returns
 returns c =
-    done c.args.text.now _ _ c.loop-b.invariant c.loop-b-test.false (some_bytes c.args.text.now c.if-is-empty.ensures) c.if-text-gt-MOST-DIGITS.false
+    done c.args.text.now _ _ c.loop-b.invariant c.loop-b-test.false (some_bytes c.args.text.now c.if-is_empty.ensures) c.if-text-gt-MOST_DIGITS.false
