@@ -9,15 +9,15 @@ use Rattle.line_ledger.proofs.Finding.{open_at, free_at, place_fits}
 use Rattle.line_ledger.proofs.Writing.{not_found, short, written}
 use Rattle.line_ledger.proofs.holding.hold_in.Goals as goal
 
-pub returns-in-default : goal.returns-in-default
+pub returns-in_default : goal.returns-in_default
 unfolding hold_answer hold_after
-returns-in-default c =
+returns-in_default c =
     let rows = c.args.rows.now in
     let n = c.args.used in
     let a = c.args.account in
     let i = c.args.item in
     let x = c.args.n in
-    let o = not_found to_held rows n a i x (look rows n a i).free x FreeTooSmall c.requires c.in-default.ensures in
+    let o = not_found to_held rows n a i x (look rows n a i).free x FreeTooSmall c.requires c.in_default.ensures in
     record { answer = o.answer; after = o.after; kept = o.kept }
 
 pub returns-then-p-n : goal.returns-then-p-n
@@ -34,9 +34,9 @@ returns-then-p-n c =
     let o = short to_held rows n k a i x (look rows n a i).free x FreeTooSmall c.requires P (omega arith) in
     record { answer = o.answer; after = o.after; kept = o.kept }
 
-pub overflow-add-rows : goal.overflow-add-rows
+pub overflow_add-rows : goal.overflow_add-rows
 unfolding limit
-overflow-add-rows c = let f = place_fits c.args.rows.now c.args.used c.in-Some.k c.args.account c.args.item c.requires c.in-Some.ensures in omega arith
+overflow_add-rows c = let f = place_fits c.args.rows.now c.args.used c.in-Some.k c.args.account c.args.item c.requires c.in-Some.ensures in omega arith
 
 pub returns : goal.returns
 unfolding hold_answer hold_after

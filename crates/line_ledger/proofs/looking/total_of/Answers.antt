@@ -7,15 +7,15 @@ use Rattle.line_ledger.proofs.looking.total_of.Goals.{then-rows-k, else-rows-k}
 pub loop-k-init : goal.loop-k-init
 loop-k-init c = sym (sum_none c.args.rows.now c.args.item)
 
-pub overflow-add-sum : goal.overflow-add-sum
+pub overflow_add-sum : goal.overflow_add-sum
 unfolding limit
-overflow-add-sum c =
+overflow_add-sum c =
     let f = sum_fits c.args.rows.now c.args.used c.loop-k.k c.args.item c.requires c.loop-k-test.true c.if-rows-k.true in
     omega arith
 
-pub overflow-add-sum-then-rows-k : goal.overflow-add-sum-then-rows-k
+pub overflow_add-sum-then-rows-k : goal.overflow_add-sum-then-rows-k
 unfolding limit
-overflow-add-sum-then-rows-k c =
+overflow_add-sum-then-rows-k c =
     let f = sum_fits c.args.rows.now c.args.used c.loop-k.k c.args.item c.requires c.loop-k-test.true c.if-rows-k.true in
     let i : c.loop-k.sum ≡ sum_of c.args.rows.now c.loop-k.k c.args.item = c.loop-k.invariant in
     omega arith

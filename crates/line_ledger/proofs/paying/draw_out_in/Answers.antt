@@ -9,15 +9,15 @@ use Rattle.line_ledger.proofs.Finding.{open_at, free_at, place_fits}
 use Rattle.line_ledger.proofs.Writing.{not_found, short, written}
 use Rattle.line_ledger.proofs.paying.draw_out_in.Goals as goal
 
-pub returns-in-default : goal.returns-in-default
+pub returns-in_default : goal.returns-in_default
 unfolding draw_out_answer draw_out_after
-returns-in-default c =
+returns-in_default c =
     let rows = c.args.rows.now in
     let n = c.args.used in
     let a = c.args.account in
     let i = c.args.item in
     let x = c.args.n in
-    let o = not_found less_free rows n a i x (look rows n a i).free x FreeTooSmall c.requires c.in-default.ensures in
+    let o = not_found less_free rows n a i x (look rows n a i).free x FreeTooSmall c.requires c.in_default.ensures in
     record { answer = o.answer; after = o.after; kept = o.kept }
 
 pub returns-then-p-n : goal.returns-then-p-n

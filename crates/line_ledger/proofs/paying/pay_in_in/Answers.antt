@@ -8,19 +8,19 @@ use Rattle.line_ledger.proofs.Finding.{open_at}
 use Rattle.line_ledger.proofs.Writing.{not_found, short, written, added_fits}
 use Rattle.line_ledger.proofs.paying.pay_in_in.Goals as goal
 
-pub returns-in-default : goal.returns-in-default
+pub returns-in_default : goal.returns-in_default
 unfolding pay_in_answer pay_in_after
-returns-in-default c =
-    let o = not_found more_free c.args.rows.now c.args.used c.args.account c.args.item c.args.n limit (total (look c.args.rows.now c.args.used) c.args.item + c.args.n) TotalTooLarge c.requires c.in-default.ensures in
+returns-in_default c =
+    let o = not_found more_free c.args.rows.now c.args.used c.args.account c.args.item c.args.n limit (total (look c.args.rows.now c.args.used) c.args.item + c.args.n) TotalTooLarge c.requires c.in_default.ensures in
     record { answer = o.answer; after = o.after; kept = o.kept }
 
-pub overflow-sub-all : goal.overflow-sub-all
+pub overflow_sub-all : goal.overflow_sub-all
 unfolding limit
-overflow-sub-all c = let b = c.requires.bounded c.args.item in let e = c.total-of-all.ensures in omega arith
+overflow_sub-all c = let b = c.requires.bounded c.args.item in let e = c.total_of-all.ensures in omega arith
 
 above : (c : goal.Then-n-all) → limit < total (look c.args.rows.now c.args.used) c.args.item + c.args.n
 unfolding limit
-above c = let b = c.requires.bounded c.args.item in let e = c.total-of-all.ensures in let h = c.if-n-all.true in omega arith
+above c = let b = c.requires.bounded c.args.item in let e = c.total_of-all.ensures in let h = c.if-n-all.true in omega arith
 
 pub returns-then-n-all : goal.returns-then-n-all
 unfolding pay_in_answer pay_in_after
@@ -28,13 +28,13 @@ returns-then-n-all c =
     let o = short more_free c.args.rows.now c.args.used c.in-Some.k c.args.account c.args.item c.args.n limit (total (look c.args.rows.now c.args.used) c.args.item + c.args.n) TotalTooLarge c.requires c.in-Some.ensures (above c) in
     record { answer = o.answer; after = o.after; kept = o.kept }
 
-below : (c : goal.After-struct-known·1) → total (look c.args.rows.now c.args.used) c.args.item + c.args.n ≤ limit
+below : (c : goal.After-struct_known-1) → total (look c.args.rows.now c.args.used) c.args.item + c.args.n ≤ limit
 unfolding limit
-below c = let b = c.requires.bounded c.args.item in let e = c.total-of-all.ensures in let h = c.if-n-all.false in omega arith
+below c = let b = c.requires.bounded c.args.item in let e = c.total_of-all.ensures in let h = c.if-n-all.false in omega arith
 
-pub overflow-add-rows : goal.overflow-add-rows
+pub overflow_add-rows : goal.overflow_add-rows
 unfolding limit
-overflow-add-rows c = let f = added_fits c.args.rows.now c.args.used c.in-Some.k c.args.account c.args.item c.args.n c.requires c.in-Some.ensures (below c) in omega arith
+overflow_add-rows c = let f = added_fits c.args.rows.now c.args.used c.in-Some.k c.args.account c.args.item c.args.n c.requires c.in-Some.ensures (below c) in omega arith
 
 pub returns : goal.returns
 unfolding pay_in_answer pay_in_after

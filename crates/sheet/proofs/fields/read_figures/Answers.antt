@@ -5,13 +5,13 @@ use Rattle.sheet_text.specs.Figures.{figure}
 use Rattle.sheet.proofs.Gathering.{missing, no_digits, one_more}
 use Rattle.sheet.proofs.fields.read_figures.Goals as goal
 
-pub returns-in-default : goal.returns-in-default
-returns-in-default c = missing _ _ _ _ _ c.loop-i.invariant c.loop-i-test.true (search (rules, ltb-true))
+pub returns-in_default : goal.returns-in_default
+returns-in_default c = missing _ _ _ _ _ c.loop-i.invariant c.loop-i-test.true (search (rules, ltb-true))
 
-pub returns-in-default-figure : goal.returns-in-default-figure
-returns-in-default-figure c =
+pub returns-in_default-figure : goal.returns-in_default-figure
+returns-in_default-figure c =
     no_digits _ _ _ _ _ c.loop-i.invariant c.loop-i-test.true _ (search (rules, ltb-false)) (take_rest c.loop-i.rest.now 1)
-    (c.in-default-figure.ensures ∙ ap figure c.cut.ensures.front)
+    (c.in_default-figure.ensures ∙ ap figure c.cut.ensures.front)
 
 pub loop-i-preserved : goal.loop-i-preserved
 loop-i-preserved c =

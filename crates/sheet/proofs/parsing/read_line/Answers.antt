@@ -8,22 +8,22 @@ use Rattle.sheet.proofs.parsing.read_line.Goals as goal
 pub returns-in-Ok : goal.returns-in-Ok
 returns-in-Ok c =
     let e =
-    c.close-line.ensures
+    c.close_line.ensures
     ∙ ap (λ (n : ℕ). closed c.in-Some.form c.in-Some.fields.now (take n c.in-Ok.found.numbers) c.in-Ok.found.rest.now) (sym c.figures.ensures)
-    ∙ whole c.args.line.now _ c.in-Some.form _ c.if-is-empty.ensures c.in-Some.ensures c.figures.ensures _ c.in-Ok.ensures in
+    ∙ whole c.args.line.now _ c.in-Some.form _ c.if-is_empty.ensures c.in-Some.ensures c.figures.ensures _ c.in-Ok.ensures in
     record { answer = e; written = told_written c.args.line.now _ e; only = told_only c.args.line.now _ e }
 
 pub returns-in-Err : goal.returns-in-Err
 returns-in-Err c =
-    let e = whole c.args.line.now _ c.in-Some.form _ c.if-is-empty.ensures c.in-Some.ensures c.figures.ensures _ c.in-Err.ensures in
+    let e = whole c.args.line.now _ c.in-Some.form _ c.if-is_empty.ensures c.in-Some.ensures c.figures.ensures _ c.in-Err.ensures in
     record { answer = e; written = tt; only = told_only c.args.line.now _ e }
 
-pub returns-in-default : goal.returns-in-default
-returns-in-default c =
-    let e = no_code c.args.line.now c.if-is-empty.ensures c.in-default.ensures in
+pub returns-in_default : goal.returns-in_default
+returns-in_default c =
+    let e = no_code c.args.line.now c.if-is_empty.ensures c.in_default.ensures in
     record { answer = e; written = tt; only = told_only c.args.line.now _ e }
 
-pub returns-then-is-empty : goal.returns-then-is-empty
-returns-then-is-empty c =
-    let e = nothing c.args.line.now c.if-is-empty.ensures in
+pub returns-then-is_empty : goal.returns-then-is_empty
+returns-then-is_empty c =
+    let e = nothing c.args.line.now c.if-is_empty.ensures in
     record { answer = e; written = tt; only = told_only c.args.line.now _ e }

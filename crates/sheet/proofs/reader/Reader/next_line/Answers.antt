@@ -7,8 +7,8 @@ pub returns : goal.returns
 unfolding left
 returns c =
     let e = c.in-Some.ensures in
-    let says = c.read-line.ensures.answer in
-    let next = c.saturating-add-self.ensures in
+    let says = c.read_line.ensures.answer in
+    let next = c.saturating_add-self.ensures in
     let t = c.args.self.now.rest.now in
     record {
       answer = answer _ _ t _ _ _ e says next;
@@ -16,8 +16,8 @@ returns c =
       step = step _ _ t _ _ _ e says next;
     }
 
-pub returns-in-default : goal.returns-in-default
+pub returns-in_default : goal.returns-in_default
 unfolding left
-returns-in-default c =
-    let e = none_left c.args.self.now.place c.args.self.now.rest.now c.in-default.ensures in
+returns-in_default c =
+    let e = none_left c.args.self.now.place c.args.self.now.rest.now c.in_default.ensures in
     record { answer = sym (ap first_of e); after = e ∙ sym (ap rest_of e); step = e }

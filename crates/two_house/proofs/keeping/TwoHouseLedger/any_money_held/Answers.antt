@@ -4,4 +4,4 @@ use Rattle.two_house.proofs.keeping.TwoHouseLedger.any_money_held.Goals as goal
 
 pub returns : goal.returns
 returns g c =
-    c.any-money-held.ensures ∙ both_money (g.B.Ledger.book c.args.self.now.bank) (g.D.Ledger.book c.args.self.now.depository)
+    c.any_money_held.ensures ∙ both_money (g.B.Ledger.book c.args.self.now.bank) (g.D.Ledger.book c.args.self.now.depository)

@@ -4,4 +4,4 @@ use Rattle.two_house.proofs.keeping.TwoHouseLedger.any_security_held.Goals as go
 
 pub returns : goal.returns
 returns g c =
-    c.any-security-held.ensures ∙ both_security (g.B.Ledger.book c.args.self.now.bank) (g.D.Ledger.book c.args.self.now.depository)
+    c.any_security_held.ensures ∙ both_security (g.B.Ledger.book c.args.self.now.bank) (g.D.Ledger.book c.args.self.now.depository)

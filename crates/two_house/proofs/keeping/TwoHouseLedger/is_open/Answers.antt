@@ -5,8 +5,8 @@ use Rattle.two_house.proofs.keeping.TwoHouseLedger.is_open.Goals as goal
 
 pub returns-then-item-eq-MONEY : goal.returns-then-item-eq-MONEY
 returns-then-item-eq-MONEY g c =
-    c.is-open.ensures ∙ sym (ap (λ (f : Figures). f.is_open) (money _ _ _ _ c.if-item-eq-MONEY.true))
+    c.is_open.ensures ∙ sym (ap (λ (f : Figures). f.is_open) (money _ _ _ _ c.if-item-eq-MONEY.true))
 
 pub returns-else-item-eq-MONEY : goal.returns-else-item-eq-MONEY
 returns-else-item-eq-MONEY g c =
-    c.is-open-else-item-eq-MONEY.ensures ∙ sym (ap (λ (f : Figures). f.is_open) (security _ _ _ _ c.if-item-eq-MONEY.false))
+    c.is_open-else-item-eq-MONEY.ensures ∙ sym (ap (λ (f : Figures). f.is_open) (security _ _ _ _ c.if-item-eq-MONEY.false))

@@ -9,7 +9,7 @@ returns-then-item-eq-MONEY g c =
     let b = c.args.self.now.bank in
     let d = c.args.self.now.depository in
     let p = pay_in_in_bank (g.B.Ledger.book b) (g.D.Ledger.book d) c.args.account c.args.item c.args.n c.if-item-eq-MONEY.true in
-    let e = c.pay-in.ensures in
+    let e = c.pay_in.ensures in
     record {
       answer = e.answer ∙ p.0;
       after = ap (λ (x : Book). both x (g.D.Ledger.book d)) e.after ∙ p.1;
@@ -21,7 +21,7 @@ returns-else-item-eq-MONEY g c =
     let b = c.args.self.now.bank in
     let d = c.args.self.now.depository in
     let p = pay_in_in_depository (g.B.Ledger.book b) (g.D.Ledger.book d) c.args.account c.args.item c.args.n c.if-item-eq-MONEY.false in
-    let e = c.pay-in-else-item-eq-MONEY.ensures in
+    let e = c.pay_in-else-item-eq-MONEY.ensures in
     record {
       answer = e.answer ∙ p.0;
       after = ap (λ (x : Book). both (g.B.Ledger.book b) x) e.after ∙ p.1;

@@ -18,15 +18,15 @@ returns-then-item-eq-MONEY g c =
     let a = c.args.account in
     let i = c.args.item in
     let z = c.if-item-eq-MONEY.true in
-    let e = c.open-pair.ensures in
+    let e = c.open_pair.ensures in
     let p = open_in_bank m k (x i) a i z in
     let n = money_room x y i z in
-    let after : both (g.B.Ledger.book c.open-pair.new.self) k ≡ open_after (both m k) (both_room x y i) a i =
+    let after : both (g.B.Ledger.book c.open_pair.new.self) k ≡ open_after (both m k) (both_room x y i) a i =
     ap (λ (v : Book). both v k) e.after ∙ p.1 ∙ ap (λ (v : ℕ). open_after (both m k) v a i) n in
     record {
       answer = e.answer ∙ p.0 ∙ ap (λ (v : ℕ). open_answer (both m k) v a i) n;
       after = after;
-      room = ap (λ (v : Room). both_room v y) e.room ∙ room_in_bank c.open-pair.result g.B.PairLedger.shares g.D.PairLedger.shares x y i z;
+      room = ap (λ (v : Room). both_room v y) e.room ∙ room_in_bank c.open_pair.result g.B.PairLedger.shares g.D.PairLedger.shares x y i z;
       figures = subst (SameFigures (both m k)) (sym after) (opened_same (both m k) (both_room x y i) a i (both_lawful m k (g.met.B.Ledger.lawful b) (g.met.D.Ledger.lawful d)));
     }
 
@@ -41,14 +41,14 @@ returns-else-item-eq-MONEY g c =
     let a = c.args.account in
     let i = c.args.item in
     let z = c.if-item-eq-MONEY.false in
-    let e = c.open-pair-else-item-eq-MONEY.ensures in
+    let e = c.open_pair-else-item-eq-MONEY.ensures in
     let p = open_in_depository m k (y i) a i z in
     let n = security_room x y i z in
-    let after : both m (g.D.Ledger.book c.open-pair-else-item-eq-MONEY.new.self) ≡ open_after (both m k) (both_room x y i) a i =
+    let after : both m (g.D.Ledger.book c.open_pair-else-item-eq-MONEY.new.self) ≡ open_after (both m k) (both_room x y i) a i =
     ap (λ (v : Book). both m v) e.after ∙ p.1 ∙ ap (λ (v : ℕ). open_after (both m k) v a i) n in
     record {
       answer = e.answer ∙ p.0 ∙ ap (λ (v : ℕ). open_answer (both m k) v a i) n;
       after = after;
-      room = ap (λ (v : Room). both_room x v) e.room ∙ room_in_depository c.open-pair-else-item-eq-MONEY.result g.B.PairLedger.shares g.D.PairLedger.shares x y i z;
+      room = ap (λ (v : Room). both_room x v) e.room ∙ room_in_depository c.open_pair-else-item-eq-MONEY.result g.B.PairLedger.shares g.D.PairLedger.shares x y i z;
       figures = subst (SameFigures (both m k)) (sym after) (opened_same (both m k) (both_room x y i) a i (both_lawful m k (g.met.B.Ledger.lawful b) (g.met.D.Ledger.lawful d)));
     }
