@@ -29,7 +29,8 @@ use Rattle.rules.specs.Calls.{Answer, unless, unless_at, holding_answer, listed_
 use Rattle.rules.specs.State.{State, free_places, free_lines}
 use Rattle.laws.specs.Days.{Day, step, run, ValidAll, Fresh, CanEnter, CanCancel}
 use Rattle.laws.specs.Accepted.{day, EntriesValid, CancelsValid, PaymentsInValid, PaymentsOutValid, nothing_live, Closed, ClosesValid}
-use Rattle.laws.proofs.Entering.{Found, found, entry_valid}
+use Rattle.laws.specs.Ending.{EntriesStrict}
+use Rattle.laws.proofs.Entering.{Found, found, entry_strict, valid_all}
 
 pub not_ok : (e : Refused) → ◌≡◌ {A = Answer} (Err e) (Ok tt) → ⊥
 not_ok e h = let z : ◌≡◌ {A = ℕ} 0 1 = cc in omega arith
@@ -136,12 +137,15 @@ entry_passed s e h =
 pub number_accepted : (s : State) (e : Entry) → enter_answer s e ≡ Ok tt → number_free s e ≡ true
 number_accepted s e h = (entry_passed s e h).listed.number
 
-pub entries_valid : EntriesValid
-entries_valid s e h =
+pub entries_strict : EntriesStrict
+entries_strict s e h =
     let a = entry_passed s e h in
     let l = a.listed in
     let o : Order = order_for s.orders e in
-    entry_valid (day s) s.securities o (record { fresh = fresh s o l.unused; some = some_quantity e a.ranged; money = l.money_open; security = l.security_open; enough = l.enough })
+    entry_strict (day s) s.securities o (record { fresh = fresh s o l.unused; some = some_quantity e a.ranged; money = l.money_open; security = l.security_open; enough = l.enough })
+
+pub entries_valid : EntriesValid
+entries_valid s e h = valid_all (day s) (entry_events s.securities s.orders (order_for s.orders e)) (entries_strict s e h)
 
 found_passed : (s : State) (c : CancelOrder) (p : Standing → Bool) (r : Option ℕ) → Found p s.orders r → found_answer s c r ≡ Ok tt → ValidAll (day s) (cancel_events r c.time)
 found_passed s c p None f h = absurd (not_ok _ h)

@@ -24,6 +24,7 @@ use Rattle.rules.specs.Listing.{find_listed}
 use Rattle.rules.specs.Checks.{is_kind, waits}
 use Rattle.rules.specs.Dealing.{opposite, waits_for, quoted_for, fits, stands_on, deal, meet, click_short, quote_short, hit, click, decide_as, follow_events, entry_events}
 use Rattle.laws.specs.Days.{Day, step, Valid, ValidAll, CanEnter, CanDeal, CanDealAt, CanCancel}
+use Rattle.laws.specs.Ending.{Strict, StrictAll}
 
 -- a search that found something found it there
 abbrev pub Found : (Standing → Bool) → List Standing → Option ℕ → Type 0
@@ -66,11 +67,11 @@ side_deal Buy n k q time = Dealt n k (quantity q) time
 side_deal Sell n k q time = Dealt k n (quantity q) time
 
 deal_valid : (d : Day) (n k q time : ℕ) → n < length d.orders → k < length d.orders → Match (order_at d.orders n) (order_at d.orders k) q →
-    (side : Side) → (order_at d.orders n).order.side ≡ side → Valid d (side_deal side n k q time)
+    (side : Side) → (order_at d.orders n).order.side ≡ side → Strict d (side_deal side n k q time)
 deal_valid d n k q time hn hk m Buy e =
-    record { buyer = hn; seller = hk; agree = record { some = m.some; buys = e; sells = other_sells _ _ m.sides e; bought = m.here; sold = m.there; ends-one = m.whole; security = m.security; price = m.same_price } }
+    (record { buyer = hn; seller = hk; agree = record { some = m.some; buys = e; sells = other_sells _ _ m.sides e; bought = m.here; sold = m.there; security = m.security; price = m.same_price } }, m.whole)
 deal_valid d n k q time hn hk m Sell e =
-    record { buyer = hk; seller = hn; agree = record { some = m.some; buys = other_buys _ _ m.sides e; sells = e; bought = m.there; sold = m.here; ends-one = ⊎_elim inr inl m.whole; security = sym m.security; price = sym m.same_price } }
+    (record { buyer = hk; seller = hn; agree = record { some = m.some; buys = other_buys _ _ m.sides e; sells = e; bought = m.there; sold = m.here; security = sym m.security; price = sym m.same_price } }, ⊎_elim inr inl m.whole)
 
 abbrev two_less : List Standing → ℕ → ℕ → ℕ → List Standing
 two_less t i j q = set (set t i (less_live (order_at t i) q)) j (less_live (order_at t j) q)
@@ -142,7 +143,7 @@ match_of o y q h hq hx hy all =
 
 -- the newcomer's deal with the order at k
 new_deal : (d : Day) (o : Order) (k q time : ℕ) → k < length d.orders → fits o (order_at d.orders k) ≡ true → 0 < q → q ≤ o.quantity.number →
-    q ≤ (order_at d.orders k).live.number → (q ≡ o.quantity.number) ⊎ (q ≡ (order_at d.orders k).live.number) → Valid (entered_day d o) (side_deal o.side (length d.orders) k q time)
+    q ≤ (order_at d.orders k).live.number → (q ≡ o.quantity.number) ⊎ (q ≡ (order_at d.orders k).live.number) → Strict (entered_day d o) (side_deal o.side (length d.orders) k q time)
 new_deal d o k q time hk m hq here there all =
     let n = new_place d o in
     let long = new_length d o in
@@ -152,7 +153,7 @@ new_deal d o k q time hk m hq here there all =
     deal_valid (entered_day d o) (length d.orders) k q time (omega (arith, long)) (omega (arith, long)) (subst Q (sym (old_place d o k hk)) (subst P (sym n) x)) o.side (ap (λ (y : Standing). y.order.side) n)
 
 cancel_both : (d : Day) (o : Order) (k : ℕ) (why : CancelReason) (time : ℕ) → k < length d.orders → 0 < (order_at d.orders k).live.number → 0 < o.quantity.number →
-    ValidAll (entered_day d o) (Cancelled k why time ∷ (Cancelled (length d.orders) why time ∷ []))
+    StrictAll (entered_day d o) (Cancelled k why time ∷ (Cancelled (length d.orders) why time ∷ []))
 cancel_both d o k why time hk live some =
     let t : List Standing = (entered_day d o).orders in
     let n : ℕ = length d.orders in
@@ -161,7 +162,7 @@ cancel_both d o k why time hk live some =
     let ne : n ≢ k = omega arith in
     let new = ap (λ (y : Standing). y.live.number) (get_or-set_other t k n (with_live (order_at t k) 0) no_one ne ∙ new_place d o) in
     let longer = length-set t k (with_live (order_at t k) 0) in
-    (record { there = omega (arith, long); live = omega (arith, old) }, (record { there = omega (arith, long, longer); live = omega (arith, new) }, tt))
+    ((record { there = omega (arith, long); live = omega (arith, old) }, tt), ((record { there = omega (arith, long, longer); live = omega (arith, new) }, tt), tt))
 
 -- a search for a live order finds one that is live
 waiting_live : (o : Order) (x : Standing) → waits_for o x ≡ true → 0 < x.live.number
@@ -170,16 +171,16 @@ waiting_live o x h = let a = and_parts (is_kind Negotiated x) _ h in let b = and
 quote_live : (o : Order) (x : Standing) → quoted_for o x ≡ true → 0 < x.live.number
 quote_live o x h = let a = and_parts (is_kind FirmQuote x) _ h in let b = and_parts (is_live x) _ a.1 in ltb-true 0 x.live.number b.0
 
-follow_deal : (d : Day) (n k q time : ℕ) (side : Side) → Valid d (side_deal side n k q time) → ValidAll d (follow_events time (deal side n k q))
+follow_deal : (d : Day) (n k q time : ℕ) (side : Side) → Strict d (side_deal side n k q time) → StrictAll d (follow_events time (deal side n k q))
 follow_deal d n k q time Buy v = (v, tt)
 follow_deal d n k q time Sell v = (v, tt)
 
 meet_valid : (d : Day) (o : Order) (time : ℕ) → 0 < o.quantity.number → (r : Option ℕ) → Found (waits_for o) d.orders r →
-    ValidAll (entered_day d o) (follow_events time (meet (length d.orders) o d.orders r))
+    StrictAll (entered_day d o) (follow_events time (meet (length d.orders) o d.orders r))
 meet_valid d o time some None f = tt
 meet_valid d o time some (Some k) f =
     let y : Standing = order_at d.orders k in
-    let P : Follow → Type 0 = λ w. ValidAll (entered_day d o) (follow_events time w) in
+    let P : Follow → Type 0 = λ w. StrictAll (entered_day d o) (follow_events time w) in
     cond_both
     (fits o y && eqb o.quantity.number y.live.number)
     (deal o.side (length d.orders) k o.quantity.number)
@@ -190,18 +191,18 @@ meet_valid d o time some (Some k) f =
     follow_deal (entered_day d o) (length d.orders) k o.quantity.number time o.side (new_deal d o k o.quantity.number time f.0 a.0 some (omega arith) (omega (arith, q)) (inl refl)))
     (λ e. cancel_both d o k Mismatch time f.0 (waiting_live o y f.1) some)
 
-follow_click_short : (d : Day) (n k l time : ℕ) (side : Side) → Valid d (side_deal side n k l time) → Valid (step d (side_deal side n k l time)) (Cancelled n ClickRest time) →
-    ValidAll d (follow_events time (click_short side n k l))
-follow_click_short d n k l time Buy v w = (v, (w, tt))
-follow_click_short d n k l time Sell v w = (v, (w, tt))
+follow_click_short : (d : Day) (n k l time : ℕ) (side : Side) → Strict d (side_deal side n k l time) → Valid (step d (side_deal side n k l time)) (Cancelled n ClickRest time) →
+    StrictAll d (follow_events time (click_short side n k l))
+follow_click_short d n k l time Buy v w = (v, ((w, tt), tt))
+follow_click_short d n k l time Sell v w = (v, ((w, tt), tt))
 
-follow_quote_short : (d : Day) (n k q time : ℕ) (side : Side) → Valid d (side_deal side n k q time) → Valid (step d (side_deal side n k q time)) (Cancelled k QuoteRest time) →
-    ValidAll d (follow_events time (quote_short side n k q))
-follow_quote_short d n k q time Buy v w = (v, (w, tt))
-follow_quote_short d n k q time Sell v w = (v, (w, tt))
+follow_quote_short : (d : Day) (n k q time : ℕ) (side : Side) → Strict d (side_deal side n k q time) → Valid (step d (side_deal side n k q time)) (Cancelled k QuoteRest time) →
+    StrictAll d (follow_events time (quote_short side n k q))
+follow_quote_short d n k q time Buy v w = (v, ((w, tt), tt))
+follow_quote_short d n k q time Sell v w = (v, ((w, tt), tt))
 
 hit_valid : (d : Day) (s : Option Security) (o : Order) (k time : ℕ) → 0 < o.quantity.number → k < length d.orders → 0 < (order_at d.orders k).live.number → fits o (order_at d.orders k) ≡ true →
-    ValidAll (entered_day d o) (follow_events time (hit s (length d.orders) o k (order_at d.orders k).order (order_at d.orders k).live.number))
+    StrictAll (entered_day d o) (follow_events time (hit s (length d.orders) o k (order_at d.orders k).order (order_at d.orders k).live.number))
 hit_valid d s o k time some hk live m =
     let n : ℕ = length d.orders in
     let l : ℕ = (order_at d.orders k).live.number in
@@ -211,7 +212,7 @@ hit_valid d s o k time some hk live m =
     let long = new_length d o in
     let new = ap (λ (y : Standing). y.live.number) (new_place d o) in
     let old = ap (λ (y : Standing). y.live.number) (old_place d o k hk) in
-    let P : Follow → Type 0 = λ f. ValidAll e (follow_events time f) in
+    let P : Follow → Type 0 = λ f. StrictAll e (follow_events time f) in
     cond_both (ltb l w) (click_short o.side n k l)
     (cond (eqb l w) (deal o.side n k l) (cond (stands_on s quote (l - w)) (deal o.side n k w) (quote_short o.side n k w)))
     P
@@ -229,19 +230,26 @@ hit_valid d s o k time some hk live m =
     below h ne = omega arith
 
 click_valid : (d : Day) (s : Option Security) (o : Order) (time : ℕ) → 0 < o.quantity.number → (r : Option ℕ) → Found (quoted_for o) d.orders r →
-    ValidAll (entered_day d o) (follow_events time (click s (length d.orders) o d.orders r))
-click_valid d s o time some None f = (cancel_new d o NoQuote time some, tt)
+    StrictAll (entered_day d o) (follow_events time (click s (length d.orders) o d.orders r))
+click_valid d s o time some None f = ((cancel_new d o NoQuote time some, tt), tt)
 click_valid d s o time some (Some k) f =
-    let P : Follow → Type 0 = λ w. ValidAll (entered_day d o) (follow_events time w) in
+    let P : Follow → Type 0 = λ w. StrictAll (entered_day d o) (follow_events time w) in
     cond_both (fits o (order_at d.orders k)) (hit s (length d.orders) o k (order_at d.orders k).order (order_at d.orders k).live.number) (CancelOne (length d.orders) Mismatch) P
     (λ e. hit_valid d s o k time some f.0 (quote_live o (order_at d.orders k) f.1) e)
-    (λ e. (cancel_new d o Mismatch time some, tt))
+    (λ e. ((cancel_new d o Mismatch time some, tt), tt))
 
-decide_valid : (d : Day) (ss : List Security) (o : Order) (time : ℕ) → 0 < o.quantity.number → (kind : OrderKind) → ValidAll (entered_day d o) (follow_events time (decide_as kind ss d.orders o))
+decide_valid : (d : Day) (ss : List Security) (o : Order) (time : ℕ) → 0 < o.quantity.number → (kind : OrderKind) → StrictAll (entered_day d o) (follow_events time (decide_as kind ss d.orders o))
 decide_valid d ss o time some Intention = tt
 decide_valid d ss o time some FirmQuote = tt
 decide_valid d ss o time some Negotiated = meet_valid d o time some (first_place (waits_for o) d.orders) (found (waits_for o) d.orders)
 decide_valid d ss o time some Click = click_valid d (find_listed ss o.security) o time some (first_place (quoted_for o) d.orders) (found (quoted_for o) d.orders)
 
+pub entry_strict : (d : Day) (ss : List Security) (o : Order) → CanEnter o d.orders d.book → StrictAll d (entry_events ss d.orders o)
+entry_strict d ss o can = ((can, tt), decide_valid d ss o o.time can.some o.kind)
+
+pub valid_all : (d : Day) (es : List Event) → StrictAll d es → ValidAll d es
+valid_all d [] v = tt
+valid_all d (e ∷ es) v = (v.0.0, valid_all (step d e) es v.1)
+
 pub entry_valid : (d : Day) (ss : List Security) (o : Order) → CanEnter o d.orders d.book → ValidAll d (entry_events ss d.orders o)
-entry_valid d ss o can = (can, decide_valid d ss o o.time can.some o.kind)
+entry_valid d ss o can = valid_all d (entry_events ss d.orders o) (entry_strict d ss o can)

@@ -28,8 +28,9 @@ use Rattle.rules.specs.Effects.{order_line, lines_of}
 use Rattle.rules.specs.Plain.{live_of, leave, nothing, any, rest_of, plain_entry_as}
 use Rattle.laws.specs.Days.{Day, step, run, Valid, ValidAll, CanDeal}
 use Rattle.laws.specs.Accepted.{day}
+use Rattle.laws.specs.Ending.{Strict, StrictAll}
 use Rattle.laws.specs.Sized.{Sized, LiveSized, line_reaches, is_sized, all_sized, LeavesSized, EntriesSized}
-use Rattle.laws.proofs.Accepting.{entry_passed, entries_valid}
+use Rattle.laws.proofs.Accepting.{entry_passed, entries_strict}
 
 -- The table.
 pub sized_leave : (ss : List Security) (p : Standing → Bool) (f : Standing → ℕ) → ((x : Standing) → Sized ss x → Sized ss (live_of x (f x))) → (t : List Standing) → LiveSized ss t → LiveSized ss (leave p f t)
@@ -96,22 +97,22 @@ alike ss x y n es ep h =
     same_price None = refl
     same_price (Some s) = ap (λ (p : Price). reaches s.class (quantity n) p) ep
 
-deal_reaches : (ss : List Security) (b s : Standing) (q : ℕ) → CanDeal b s q → Sized ss b → Sized ss s → stands_on (find_listed ss b.order.security) b.order q ≡ true
-deal_reaches ss b s q c hb hs =
+deal_reaches : (ss : List Security) (b s : Standing) (q : ℕ) → CanDeal b s q → (q ≡ b.live.number) ⊎ (q ≡ s.live.number) → Sized ss b → Sized ss s → stands_on (find_listed ss b.order.security) b.order q ≡ true
+deal_reaches ss b s q c ends hb hs =
     let some = c.some in
     ⊎_elim
     (λ (e : q ≡ b.live.number). ap (λ (n : ℕ). stands_on (find_listed ss b.order.security) b.order n) e ∙ hb (omega (arith, some, e)))
     (λ (e : q ≡ s.live.number).
     ap (λ (n : ℕ). stands_on (find_listed ss b.order.security) b.order n) e
     ∙ alike ss s.order b.order s.live.number (sym c.security) (sym c.price) (hs (omega (arith, some, e))))
-    c.ends-one
+    ends
 
-dealt_sized : (ss : List Security) (d : Day) (i j : ℕ) (q : Quantity) (time : ℕ) → Valid d (Dealt i j q time) → LiveSized ss d.orders → all_sized ss (lines_of (Dealt i j q time) d.orders (d.deals + 1)) ≡ true
+dealt_sized : (ss : List Security) (d : Day) (i j : ℕ) (q : Quantity) (time : ℕ) → Strict d (Dealt i j q time) → LiveSized ss d.orders → all_sized ss (lines_of (Dealt i j q time) d.orders (d.deals + 1)) ≡ true
 dealt_sized ss d i j q time v l =
     let b : Standing = order_at d.orders i in
     let s : Standing = order_at d.orders j in
-    let h = deal_reaches ss b s q.number v.agree (l i v.buyer) (l j v.seller) in
-    let g = alike ss b.order s.order q.number v.agree.security v.agree.price h in
+    let h = deal_reaches ss b s q.number v.0.agree v.1 (l i v.0.buyer) (l j v.0.seller) in
+    let g = alike ss b.order s.order q.number v.0.agree.security v.0.agree.price h in
     and_from _ _ (line_of_part (find_listed ss b.order.security) b.order q time ∙ h)
     (and_from _ _ (line_of_part (find_listed ss s.order.security) s.order q time ∙ g) refl)
 
@@ -119,7 +120,7 @@ pub sized_step : (ss : List Security) (d : Day) (e : Event) → all_sized ss (li
 sized_step ss d e g h = sized_append ss d.lines (lines_of e d.orders (d.deals + 1)) h g
 
 -- a deal is the first thing that follows, if there is one
-follow_sized : (ss : List Security) (d : Day) (time : ℕ) (f : Follow) → ValidAll d (follow_events time f) → LiveSized ss d.orders → all_sized ss d.lines ≡ true → all_sized ss (run d (follow_events time f)).lines ≡ true
+follow_sized : (ss : List Security) (d : Day) (time : ℕ) (f : Follow) → StrictAll d (follow_events time f) → LiveSized ss d.orders → all_sized ss d.lines ≡ true → all_sized ss (run d (follow_events time f)).lines ≡ true
 follow_sized ss d time Wait v l h = h
 follow_sized ss d time (deal_follows i j q) v l h = sized_step ss d (Dealt i j q time) (dealt_sized ss d i j q time v.0 l) h
 follow_sized ss d time (CancelBoth k n) v l h =
@@ -137,7 +138,7 @@ entries_sized s e h l g =
     let d : Day = step (day s) (Entered o) in
     record {
       live = sized_entry_as o.kind ss s.orders o size l;
-      deals = follow_sized ss d o.time (decide ss s.orders o) (entries_valid s e h).1
+      deals = follow_sized ss d o.time (decide ss s.orders o) (entries_strict s e h).1
           (sized_push ss s.orders (record { order = o; live = o.quantity }) l (λ some. size))
           (sized_step ss (day s) (Entered o) refl g);
     }

@@ -2,6 +2,7 @@ pub mod Days
 pub mod Accounts
 pub mod Sound
 pub mod Accepted
+pub mod Ending
 pub mod Paired
 pub mod Plainly
 pub mod Single

@@ -4,7 +4,7 @@ use Rattle.std.proofs.lemmas.Bool.{ltb-true, ltb-false}
 use Rattle.sheet.specs.Codes.{two_letters, ends, with_text}
 use Rattle.sheet.proofs.Announcing.{one, two, neither}
 use Rattle.sheet.proofs.codes.split_code.Goals as goal
-use Rattle.sheet.proofs.codes.split_code.Goals.{in-default-via-then-line-lt1, in-default-via-in-len1-up+else-ends-code+then-line-lt2, in-default-via-in-len2-up+else-ends-code-2}
+use Rattle.sheet.proofs.codes.split_code.Goals.{in_default-via-then-line-lt1, in_default-via-in-len1-up+else-ends_code+then-line-lt2, in_default-via-in-len2-up+else-ends_code-2}
 
 -- a test of the text behind n bytes
 behind : (t : List ℕ) (n : ℕ) {b : Bool} → b ≡ ends (take (length t - n) (drop n t)) → ends (drop n t) ≡ b
@@ -24,12 +24,12 @@ returns-in-len2-up c =
 pub returns-in_default : goal.returns-in_default
 returns-in_default c =
     elim c.in_default.branch [
-      | in-default-via-then-line-lt1 w ↦
+      | in_default-via-then-line-lt1 w ↦
           let none : length c.args.line.now ≤ 0 = search (rules, ltb-true) in
           neither c.args.line.now (λ some. absurd (omega arith)) (λ some. absurd (omega arith))
-      | in-default-via-in-len1-up+else-ends-code+then-line-lt2 w ↦
+      | in_default-via-in-len1-up+else-ends_code+then-line-lt2 w ↦
           let few : length c.args.line.now ≤ 1 = search (rules, ltb-true) in
           neither c.args.line.now (λ _. behind c.args.line.now 1 w.if-ends_code.ensures) (λ some. absurd (omega arith))
-      | in-default-via-in-len2-up+else-ends-code-2 w ↦
+      | in_default-via-in-len2-up+else-ends_code-2 w ↦
           neither c.args.line.now (λ _. behind c.args.line.now 1 w.if-ends_code.ensures) (λ _. behind c.args.line.now 2 w.if-ends_code-2.ensures)
     ]
