@@ -24,7 +24,7 @@ use Rattle.rules.specs.Listing.{find_listed, quoted}
 use Rattle.market.specs.Classes.{trades_at, reaches}
 use Rattle.market.specs.Figures.{times, within_limit}
 use Rattle.rules.specs.Checks.{entry_in_range, cancel_in_range, payment_in_range, payment_allowed, of_unit, has_name, serial_used, number_free, answers_to, order_for}
-use Rattle.rules.specs.Dealing.{close_from, close_events, close_time, cancel_events}
+use Rattle.rules.specs.Dealing.{close_from, close_events, close_time, cancel_events, entry_events}
 use Rattle.rules.specs.Calls.{Answer, unless, unless_at, holding_answer, listed_answer, enter_answer, found_answer, target_of, cancel_answer, by_ledger, paying_answer}
 use Rattle.rules.specs.State.{State, free_places, free_lines}
 use Rattle.laws.specs.Days.{Day, step, run, ValidAll, Fresh, CanEnter, CanCancel}

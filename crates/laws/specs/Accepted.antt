@@ -2,7 +2,7 @@
 --   day s              the floor s as the laws see it
 --   EntriesValid      those of an accepted entry
 --   CancelsValid      those of an accepted cancel
---   Payments-valid     that of an accepted payment in, and of one out
+--   PaymentsInValid, PaymentsOutValid   that of an accepted payment in, and of one out
 --   ClosesValid       those of a close, which leaves nothing live
 use Rattle.std.specs.Prelude.{◌≡◌, ℕ, List, [], ◌∷◌, map, Ok}
 use Rattle.rules.specs.declared.event.Event.TheVariants.{PaidIn, DrawnOut}

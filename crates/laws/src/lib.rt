@@ -4,6 +4,7 @@
 ghost use Rattle.laws.specs.Accepted.{EntriesValid, CancelsValid, PaymentsInValid, PaymentsOutValid, ClosesValid};
 ghost use Rattle.laws.specs.Agreed.{EntriesAgreed};
 ghost use Rattle.laws.specs.Dealings.{NegotiatedLaw, ClickLaw, NumbersLaw};
+ghost use Rattle.laws.specs.Ending.{EntriesStrict};
 ghost use Rattle.laws.specs.First.{EntriesFirst, OrdersFirst};
 ghost use Rattle.laws.specs.Fitting.{PartInRange, LinesTaken};
 ghost use Rattle.laws.specs.Paired.{DealsPaired};
@@ -57,6 +58,11 @@ pub fn accepted_calls_yield_valid_events()
     ensures payments_in { PaymentsInValid }
     ensures payments_out { PaymentsOutValid }
     ensures closes { ClosesValid }
+{}
+
+// A deal that follows from an accepted entry takes all that is live of one of its two orders.
+pub fn deals_end_an_order()
+    ensures { EntriesStrict }
 {}
 
 // Valid events number the deals 1, 2, 3 and so on, each in one buying and one selling line that agree.

@@ -11,15 +11,15 @@ loop-q-preserved c =
     let ps = c.args.pairs.now in
     let i = c.loop-q.q-index in
     let q : Pair = get_or ps i (pair 0 0) in
-    sym (at_drop_more (has p) ps i (pair 0 0) c.loop-q-test.true ∙ cond-false (same q p) true (has p (drop (i + 1) ps)) (sym c.is-same.ensures ∙ c.if-is-same.false)) ∙ c.loop-q.invariant
+    sym (at_drop_more (has p) ps i (pair 0 0) c.loop-q-test.true ∙ cond-false (same q p) true (has p (drop (i + 1) ps)) (sym c.is_same.ensures ∙ c.if-is_same.false)) ∙ c.loop-q.invariant
 
-pub returns-then-is-same : goal.returns-then-is-same
-returns-then-is-same c =
+pub returns-then-is_same : goal.returns-then-is_same
+returns-then-is_same c =
     let p = c.args.p in
     let ps = c.args.pairs.now in
     let i = c.loop-q.q-index in
     let q : Pair = get_or ps i (pair 0 0) in
-    sym (at_drop_more (has p) ps i (pair 0 0) c.loop-q-test.true ∙ cond-true (same q p) true (has p (drop (i + 1) ps)) (sym c.is-same.ensures ∙ c.if-is-same.true)) ∙ c.loop-q.invariant
+    sym (at_drop_more (has p) ps i (pair 0 0) c.loop-q-test.true ∙ cond-true (same q p) true (has p (drop (i + 1) ps)) (sym c.is_same.ensures ∙ c.if-is_same.true)) ∙ c.loop-q.invariant
 
 pub returns : goal.returns
 returns c = sym (at_drop_all (has c.args.p) c.args.pairs.now c.loop-q.q-index c.loop-q-test.false) ∙ c.loop-q.invariant

@@ -17,7 +17,7 @@ loop-k-preserved g c =
     let ls : List Line = (g.T.Tape.contents c.args.tape.now).lines in
     let k = c.loop-k.k in
     let lt : k < length ls = omega (arith, c.count-k-end.ensures, c.loop-k-test.true) in
-    lines_turn ls k c.in-Ok.line (string_bytes c.loop-k.out) (string_bytes c.push-row.new.out) lt c.in-Ok.ensures (c.in-ok-push-row.ensures ∙ ap (λ v. string_bytes c.loop-k.out ++ row_text a_line v) c.line-cells.ensures) ∙ c.loop-k.invariant
+    lines_turn ls k c.in-Ok.line (string_bytes c.loop-k.out) (string_bytes c.push_row.new.out) lt c.in-Ok.ensures (c.in_ok-push_row.ensures ∙ ap (λ v. string_bytes c.loop-k.out ++ row_text a_line v) c.line_cells.ensures) ∙ c.loop-k.invariant
 
 pub returns : goal.returns
 returns g c =

@@ -18,10 +18,10 @@ loop-p-preserved g c =
     let ps = c.args.pairs.now in
     let p : Pair = get_or ps c.loop-p.p-index (pair 0 0) in
     let a = string_bytes c.loop-p.out in
-    joined_turn (net_row ls) (string_bytes c.args.out.now) a (string_bytes c.push-row.new.out) ps c.loop-p.p-index (pair 0 0) c.loop-p-test.true c.loop-p.invariant
-    (c.in-ok-push-row.ensures
-    ∙ ap (λ (v : List Cell). a ++ row_text Net v) c.net-cells.ensures
-    ∙ ap (λ (v : Movement). a ++ row_text Net (net_cells p v)) c.movement-of-m.ensures)
+    joined_turn (net_row ls) (string_bytes c.args.out.now) a (string_bytes c.push_row.new.out) ps c.loop-p.p-index (pair 0 0) c.loop-p-test.true c.loop-p.invariant
+    (c.in_ok-push_row.ensures
+    ∙ ap (λ (v : List Cell). a ++ row_text Net v) c.net_cells.ensures
+    ∙ ap (λ (v : Movement). a ++ row_text Net (net_cells p v)) c.movement_of-m.ensures)
 
 pub returns : goal.returns
 returns g c =
