@@ -5,8 +5,8 @@ use Rattle.answers.proofs.rows.push_rows.Goals as goal
 pub loop-k-preserved : goal.loop-k-preserved
 loop-k-preserved c =
     let a = string_bytes c.loop-k.out in
-    rows_turn c.args.answers.now c.loop-k.k _ a (string_bytes c.push-str.new.self) c.loop-k-test.true
-    (c.in-ok-push-str.ensures.bytes ∙ ap (λ (v : List ℕ). a ++ v) (c.as-str.ensures.value ∙ c.in-ok-row-of.ensures))
+    rows_turn c.args.answers.now c.loop-k.k _ a (string_bytes c.push_str.new.self) c.loop-k-test.true
+    (c.in_ok-push_str.ensures.bytes ∙ ap (λ (v : List ℕ). a ++ v) (c.as_str.ensures.value ∙ c.in_ok-row_of.ensures))
     ∙ c.loop-k.invariant
 
 pub returns : goal.returns

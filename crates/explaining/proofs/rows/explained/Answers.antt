@@ -8,4 +8,4 @@ loop-row-smaller c = less_left c.loop-row.rest.now c.in-Some.row.now c.in-Some.b
 
 pub loop-row-preserved : goal.loop-row-preserved
 loop-row-preserved c =
-    explained_turn c.loop-row.rest.now (vec_items c.loop-row.out) (vec_items c.push-row.new.out) c.in-Some.row.now c.in-Some.behind.now c.in-Some.ensures c.in-ok-push-row.ensures ∙ c.loop-row.invariant
+    explained_turn c.loop-row.rest.now (vec_items c.loop-row.out) (vec_items c.push_row.new.out) c.in-Some.row.now c.in-Some.behind.now c.in-Some.ensures c.in_ok-push_row.ensures ∙ c.loop-row.invariant

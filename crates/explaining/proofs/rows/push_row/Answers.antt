@@ -6,8 +6,8 @@ use Rattle.explaining.proofs.rows.push_row.Goals as goal
 pub returns : goal.returns
 returns c =
     let row = c.args.row.now in
-    let a = vec_items c.extend-from-slice.new.self in
-    three_made c.extend-from-slice-2.result (vec_items c.args.out.now) row (in_brackets (note row)) (10 ∷ []) a (vec_items c.push-note.new.out) (vec_items c.extend-from-slice-2.new.self)
-    c.in-ok-extend-from-slice.ensures.items
-    (c.in-ok-push-note.ensures ∙ ap (λ (v : Option (List ℕ)). a ++ in_brackets v) c.note-of.ensures)
-    c.extend-from-slice-2.ensures.items
+    let a = vec_items c.extend_from_slice.new.self in
+    three_made c.extend_from_slice-2.result (vec_items c.args.out.now) row (in_brackets (note row)) (10 ∷ []) a (vec_items c.push_note.new.out) (vec_items c.extend_from_slice-2.new.self)
+    c.in_ok-extend_from_slice.ensures.items
+    (c.in_ok-push_note.ensures ∙ ap (λ (v : Option (List ℕ)). a ++ in_brackets v) c.note_of.ensures)
+    c.extend_from_slice-2.ensures.items

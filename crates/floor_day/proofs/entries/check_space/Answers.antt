@@ -3,8 +3,8 @@ use Rattle.std.proofs.lemmas.List.Sums.{count_by-le-length}
 use Rattle.rules.specs.Orders.{is_live}
 use Rattle.floor_day.proofs.entries.check_space.Goals as goal
 
-pub overflow-add-live : goal.overflow-add-live
-overflow-add-live g c =
+pub overflow_add-live : goal.overflow_add-live
+overflow_add-live g c =
     let h = count_by-le-length is_live c.deref.result.now in
     let v = c.args.table.now.orders in
     let o = v.ok in

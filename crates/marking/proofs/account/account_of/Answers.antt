@@ -16,31 +16,31 @@ unreachable-requires g c =
     let lt : c.loop-k.k < length ls = omega (arith, c.count-k-end.ensures, c.loop-k-test.true) in
     read_there ls c.loop-k.k c.in-Err.field-0 lt c.in-Err.ensures
 
-pub overflow-add-quantity : goal.overflow-add-quantity
-overflow-add-quantity g c =
+pub overflow_add-quantity : goal.overflow_add-quantity
+overflow_add-quantity g c =
     let t : Contents = g.T.Tape.contents c.args.tape.now in
     let u = c.args.name.unit in
     let n = c.args.name.serial in
     let lt : c.loop-k.k < length t.lines = omega (arith, c.count-k-end.ensures, c.loop-k-test.true) in
-    let h : c.loop-k.quantity + c.entered-by-quantity.result ≤ 4096000000000000000 = (turn (enters u n) (enters_small u n) t c.loop-k.k c.in-Ok.line c.loop-k.quantity c.entered-by-quantity.result (g.met.T.Tape.lawful c.args.tape.now) lt c.in-Ok.ensures c.loop-k.invariant.0 c.entered-by-quantity.ensures).small in
+    let h : c.loop-k.quantity + c.entered_by-quantity.result ≤ 4096000000000000000 = (turn (enters u n) (enters_small u n) t c.loop-k.k c.in-Ok.line c.loop-k.quantity c.entered_by-quantity.result (g.met.T.Tape.lawful c.args.tape.now) lt c.in-Ok.ensures c.loop-k.invariant.0 c.entered_by-quantity.ensures).small in
     search rules
 
-pub overflow-add-dealt : goal.overflow-add-dealt
-overflow-add-dealt g c =
+pub overflow_add-dealt : goal.overflow_add-dealt
+overflow_add-dealt g c =
     let t : Contents = g.T.Tape.contents c.args.tape.now in
     let u = c.args.name.unit in
     let n = c.args.name.serial in
     let lt : c.loop-k.k < length t.lines = omega (arith, c.count-k-end.ensures, c.loop-k-test.true) in
-    let h : c.loop-k.dealt + c.dealt-by-dealt.result ≤ 4096000000000000000 = (turn (deals u n) (deals_small u n) t c.loop-k.k c.in-Ok.line c.loop-k.dealt c.dealt-by-dealt.result (g.met.T.Tape.lawful c.args.tape.now) lt c.in-Ok.ensures c.loop-k.invariant.1 c.dealt-by-dealt.ensures).small in
+    let h : c.loop-k.dealt + c.dealt_by-dealt.result ≤ 4096000000000000000 = (turn (deals u n) (deals_small u n) t c.loop-k.k c.in-Ok.line c.loop-k.dealt c.dealt_by-dealt.result (g.met.T.Tape.lawful c.args.tape.now) lt c.in-Ok.ensures c.loop-k.invariant.1 c.dealt_by-dealt.ensures).small in
     search rules
 
-pub overflow-add-cancelled : goal.overflow-add-cancelled
-overflow-add-cancelled g c =
+pub overflow_add-cancelled : goal.overflow_add-cancelled
+overflow_add-cancelled g c =
     let t : Contents = g.T.Tape.contents c.args.tape.now in
     let u = c.args.name.unit in
     let n = c.args.name.serial in
     let lt : c.loop-k.k < length t.lines = omega (arith, c.count-k-end.ensures, c.loop-k-test.true) in
-    let h : c.loop-k.cancelled + c.cancelled-by-cancelled.result ≤ 4096000000000000000 = (turn (cancels u n) (cancels_small u n) t c.loop-k.k c.in-Ok.line c.loop-k.cancelled c.cancelled-by-cancelled.result (g.met.T.Tape.lawful c.args.tape.now) lt c.in-Ok.ensures c.loop-k.invariant.2 c.cancelled-by-cancelled.ensures).small in
+    let h : c.loop-k.cancelled + c.cancelled_by-cancelled.result ≤ 4096000000000000000 = (turn (cancels u n) (cancels_small u n) t c.loop-k.k c.in-Ok.line c.loop-k.cancelled c.cancelled_by-cancelled.result (g.met.T.Tape.lawful c.args.tape.now) lt c.in-Ok.ensures c.loop-k.invariant.2 c.cancelled_by-cancelled.ensures).small in
     search rules
 
 pub loop-k-preserved : goal.loop-k-preserved
@@ -50,9 +50,9 @@ loop-k-preserved g c =
     let n = c.args.name.serial in
     let law = g.met.T.Tape.lawful c.args.tape.now in
     let lt : c.loop-k.k < length t.lines = omega (arith, c.count-k-end.ensures, c.loop-k-test.true) in
-    let x : Turn (enters u n) t.lines c.loop-k.k c.loop-k.quantity c.entered-by-quantity.result = turn (enters u n) (enters_small u n) t c.loop-k.k c.in-Ok.line c.loop-k.quantity c.entered-by-quantity.result law lt c.in-Ok.ensures c.loop-k.invariant.0 c.entered-by-quantity.ensures in
-    let y : Turn (deals u n) t.lines c.loop-k.k c.loop-k.dealt c.dealt-by-dealt.result = turn (deals u n) (deals_small u n) t c.loop-k.k c.in-Ok.line c.loop-k.dealt c.dealt-by-dealt.result law lt c.in-Ok.ensures c.loop-k.invariant.1 c.dealt-by-dealt.ensures in
-    let z : Turn (cancels u n) t.lines c.loop-k.k c.loop-k.cancelled c.cancelled-by-cancelled.result = turn (cancels u n) (cancels_small u n) t c.loop-k.k c.in-Ok.line c.loop-k.cancelled c.cancelled-by-cancelled.result law lt c.in-Ok.ensures c.loop-k.invariant.2 c.cancelled-by-cancelled.ensures in
+    let x : Turn (enters u n) t.lines c.loop-k.k c.loop-k.quantity c.entered_by-quantity.result = turn (enters u n) (enters_small u n) t c.loop-k.k c.in-Ok.line c.loop-k.quantity c.entered_by-quantity.result law lt c.in-Ok.ensures c.loop-k.invariant.0 c.entered_by-quantity.ensures in
+    let y : Turn (deals u n) t.lines c.loop-k.k c.loop-k.dealt c.dealt_by-dealt.result = turn (deals u n) (deals_small u n) t c.loop-k.k c.in-Ok.line c.loop-k.dealt c.dealt_by-dealt.result law lt c.in-Ok.ensures c.loop-k.invariant.1 c.dealt_by-dealt.ensures in
+    let z : Turn (cancels u n) t.lines c.loop-k.k c.loop-k.cancelled c.cancelled_by-cancelled.result = turn (cancels u n) (cancels_small u n) t c.loop-k.k c.in-Ok.line c.loop-k.cancelled c.cancelled_by-cancelled.result law lt c.in-Ok.ensures c.loop-k.invariant.2 c.cancelled_by-cancelled.ensures in
     (x.sums, y.sums, z.sums, x.small, y.small, z.small)
 
 pub returns : goal.returns

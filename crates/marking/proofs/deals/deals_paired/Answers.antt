@@ -19,16 +19,16 @@ loop-k-preserved g c =
     let k = c.loop-k.k in
     let lt : k < length ls = omega (arith, c.count-k-end.ensures, c.loop-k-test.true) in
     let e = read_gives ls k c.in-Ok.line any_line lt c.in-Ok.ensures in
-    let yes' : line_paired ls (get_or ls k any_line) ≡ true = ap (line_paired ls) (sym e) ∙ sym c.is-paired.ensures ∙ c.if-not-is-paired.false in
+    let yes' : line_paired ls (get_or ls k any_line) ≡ true = ap (line_paired ls) (sym e) ∙ sym c.is_paired.ensures ∙ c.if-not-is_paired.false in
     sym (at_drop_more (all_paired ls) ls k any_line lt ∙ and_true (line_paired ls (get_or ls k any_line)) (all_paired ls (drop (k + 1) ls)) yes') ∙ c.loop-k.invariant
 
-pub returns-then-not-is-paired : goal.returns-then-not-is-paired
-returns-then-not-is-paired g c =
+pub returns-then-not-is_paired : goal.returns-then-not-is_paired
+returns-then-not-is_paired g c =
     let ls : List Line = (g.T.Tape.contents c.args.tape.now).lines in
     let k = c.loop-k.k in
     let lt : k < length ls = omega (arith, c.count-k-end.ensures, c.loop-k-test.true) in
     let e = read_gives ls k c.in-Ok.line any_line lt c.in-Ok.ensures in
-    let no' : line_paired ls (get_or ls k any_line) ≡ false = ap (line_paired ls) (sym e) ∙ sym c.is-paired.ensures ∙ c.if-not-is-paired.true in
+    let no' : line_paired ls (get_or ls k any_line) ≡ false = ap (line_paired ls) (sym e) ∙ sym c.is_paired.ensures ∙ c.if-not-is_paired.true in
     sym (at_drop_more (all_paired ls) ls k any_line lt ∙ and_left (line_paired ls (get_or ls k any_line)) (all_paired ls (drop (k + 1) ls)) no') ∙ c.loop-k.invariant
 
 pub returns : goal.returns

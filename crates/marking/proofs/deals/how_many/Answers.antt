@@ -5,7 +5,7 @@ use Rattle.tape.specs.declared.line.Line.{Line}
 use Rattle.tape.proofs.Fetched.{any_line, read_there, read_gives}
 use Rattle.marking.specs.Deals.{answers, how_many}
 use Rattle.marking.proofs.deals.how_many.Goals as goal
-use Rattle.marking.proofs.deals.how_many.Goals.{then-is-asked, else-is-asked}
+use Rattle.marking.proofs.deals.how_many.Goals.{then-is_asked, else-is_asked}
 
 pub unreachable-requires : goal.unreachable-requires
 unreachable-requires g c =
@@ -22,13 +22,13 @@ loop-k-preserved g c =
     let e = read_gives ls k c.in-Ok.line any_line lt c.in-Ok.ensures in
     let few = c.loop-k.invariant.1 in
     let so = c.loop-k.invariant.0 in
-    elim c.if-is-asked.branch [
-      | then-is-asked w ↦
-          let m = count_by_more_yes (answers q) ls k any_line lt (ap (answers q) (sym e) ∙ sym c.is-asked.ensures ∙ w.if-is-asked.true) in
+    elim c.if-is_asked.branch [
+      | then-is_asked w ↦
+          let m = count_by_more_yes (answers q) ls k any_line lt (ap (answers q) (sym e) ∙ sym c.is_asked.ensures ∙ w.if-is_asked.true) in
           let v = w.found-is in
           (omega (arith, m, v, so), omega (arith, v, few))
-      | else-is-asked w ↦
-          let m = count_by_more_no (answers q) ls k any_line lt (ap (answers q) (sym e) ∙ sym c.is-asked.ensures ∙ w.if-is-asked.false) in
+      | else-is_asked w ↦
+          let m = count_by_more_no (answers q) ls k any_line lt (ap (answers q) (sym e) ∙ sym c.is_asked.ensures ∙ w.if-is_asked.false) in
           let v = w.found-is in
           (omega (arith, m, v, so), omega (arith, v, few))
     ]

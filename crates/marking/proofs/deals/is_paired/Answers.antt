@@ -11,8 +11,8 @@ returns-in-Deal g c =
     let ls : List Line = (g.T.Tape.contents c.args.tape.now).lines in
     let o = c.in-Deal.o in
     let n = c.in-Deal.n in
-    c.is-pair.ensures
-    ∙ ap (λ (v : ℕ). pair_of v c.how-many-selling.result c.how-many-alike.result) c.how-many-buying.ensures
-    ∙ ap (λ (v : ℕ). pair_of (how_many ls (Side Buy n)) v c.how-many-alike.result) c.how-many-selling.ensures
-    ∙ ap (λ (v : ℕ). pair_of (how_many ls (Side Buy n)) (how_many ls (Side Sell n)) v) c.how-many-alike.ensures
+    c.is_pair.ensures
+    ∙ ap (λ (v : ℕ). pair_of v c.how_many-selling.result c.how_many-alike.result) c.how_many-buying.ensures
+    ∙ ap (λ (v : ℕ). pair_of (how_many ls (Side Buy n)) v c.how_many-alike.result) c.how_many-selling.ensures
+    ∙ ap (λ (v : ℕ). pair_of (how_many ls (Side Buy n)) (how_many ls (Side Sell n)) v) c.how_many-alike.ensures
     ∙ ap (line_paired ls) (sym c.in-Deal.is)

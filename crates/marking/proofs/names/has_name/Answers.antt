@@ -12,15 +12,15 @@ loop-other-preserved c =
     let ns = c.args.names.now in
     let i = c.loop-other.other-index in
     let m : Name = get_or ns i no_name in
-    sym (at_drop_more (has n) ns i no_name c.loop-other-test.true ∙ cond-false (same m n) true (has n (drop (i + 1) ns)) (sym c.is-same.ensures ∙ c.if-is-same.false)) ∙ c.loop-other.invariant
+    sym (at_drop_more (has n) ns i no_name c.loop-other-test.true ∙ cond-false (same m n) true (has n (drop (i + 1) ns)) (sym c.is_same.ensures ∙ c.if-is_same.false)) ∙ c.loop-other.invariant
 
-pub returns-then-is-same : goal.returns-then-is-same
-returns-then-is-same c =
+pub returns-then-is_same : goal.returns-then-is_same
+returns-then-is_same c =
     let n = c.args.name in
     let ns = c.args.names.now in
     let i = c.loop-other.other-index in
     let m : Name = get_or ns i no_name in
-    sym (at_drop_more (has n) ns i no_name c.loop-other-test.true ∙ cond-true (same m n) true (has n (drop (i + 1) ns)) (sym c.is-same.ensures ∙ c.if-is-same.true)) ∙ c.loop-other.invariant
+    sym (at_drop_more (has n) ns i no_name c.loop-other-test.true ∙ cond-true (same m n) true (has n (drop (i + 1) ns)) (sym c.is_same.ensures ∙ c.if-is_same.true)) ∙ c.loop-other.invariant
 
 pub returns : goal.returns
 returns c = sym (at_drop_all (has c.args.name) c.args.names.now c.loop-other.other-index c.loop-other-test.false) ∙ c.loop-other.invariant

@@ -18,7 +18,7 @@ loop-k-preserved g c =
     let ls : List Line = (g.T.Tape.contents c.args.tape.now).lines in
     let k = c.loop-k.k in
     let lt : k < length ls = omega (arith, c.count-k-end.ensures, c.loop-k-test.true) in
-    c.in-ok-note-line.ensures
+    c.in_ok-note_line.ensures
     ∙ ap (λ (v : List Name). noted_line v c.in-Ok.line) c.loop-k.invariant
     ∙ ap (noted_line (orders (take k ls))) (read_gives ls k c.in-Ok.line any_line lt c.in-Ok.ensures)
     ∙ sym (fold_more noted_line [] ls k any_line lt)
