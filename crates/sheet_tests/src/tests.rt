@@ -69,8 +69,8 @@ fn an_order(rt: HostRuntime) -> Result<(), Fail> {
     assert!(rt; order.unit == 1 && order.serial == 2 && order.account == 3 && order.code == 4);
     assert!(rt; order.quantity == 5 && order.price == 6 && order.time == 7);
     assert!(rt; order.counterpart == 0 && order.number == 0);
-    assert_eq!(rt; fields, b" 1 2 3 4 5 6 007 Li 5");
-    assert_eq!(rt; contact, b"Li 5");
+    assert_eq!(rt; fields, b" 1 2 3 4 5 6 007 Li 5".as_slice());
+    assert_eq!(rt; contact, b"Li 5".as_slice());
     Ok(())
 }
 

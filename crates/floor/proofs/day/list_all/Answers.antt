@@ -5,7 +5,7 @@ use Rattle.floor.proofs.day.list_all.Goals as goal
 pub loop-e-preserved : goal.loop-e-preserved
 loop-e-preserved c =
     let k = c.loop-e.invariant in
-    (listed_more c.args.list.now c.loop-e.e-index _ _ _ _ c.loop-e-test.true c.security-of.ensures k.0 c.push-reserved.ensures.items, search rules, c.push-reserved.ensures.capacity ∙ k.2)
+    (listed_more c.args.list.now c.loop-e.e-index _ _ _ _ c.loop-e-test.true c.security_of.ensures k.0 c.push_reserved.ensures.items, search rules, c.push_reserved.ensures.capacity ∙ k.2)
 
 pub returns : goal.returns
 returns c =

@@ -11,6 +11,6 @@ pub returns : goal.returns
 returns g c =
     let ls : List Line = (g.T.Tape.contents c.args.tape.now).lines in
     let w = string_bytes c.args.out.now in
-    then_made c.push-deals.result w (string_bytes c.push-orders.new.out) (string_bytes c.push-deals.new.out) (flat_map (order_row ls) (orders ls)) (deals_row ls)
-    (c.in-ok-push-orders.ensures ∙ ap (λ (v : List Name). w ++ flat_map (order_row ls) v) (c.as-slice.ensures.value ∙ c.in-ok-names.ensures))
-    c.push-deals.ensures
+    then_made c.push_deals.result w (string_bytes c.push_orders.new.out) (string_bytes c.push_deals.new.out) (flat_map (order_row ls) (orders ls)) (deals_row ls)
+    (c.in_ok-push_orders.ensures ∙ ap (λ (v : List Name). w ++ flat_map (order_row ls) v) (c.as_slice.ensures.value ∙ c.in_ok-names.ensures))
+    c.push_deals.ensures

@@ -18,10 +18,10 @@ loop-n-preserved g c =
     let ns = c.args.names.now in
     let n : Name = get_or ns c.loop-n.n-index no_name in
     let a = string_bytes c.loop-n.out in
-    joined_turn (order_row ls) (string_bytes c.args.out.now) a (string_bytes c.push-row.new.out) ns c.loop-n.n-index no_name c.loop-n-test.true c.loop-n.invariant
-    (c.in-ok-push-row.ensures
-    ∙ ap (λ (v : List Cell). a ++ row_text Order v) c.order-cells.ensures
-    ∙ ap (λ (v : OrderAccount). a ++ row_text Order (order_cells n v)) c.account-of-account.ensures)
+    joined_turn (order_row ls) (string_bytes c.args.out.now) a (string_bytes c.push_row.new.out) ns c.loop-n.n-index no_name c.loop-n-test.true c.loop-n.invariant
+    (c.in_ok-push_row.ensures
+    ∙ ap (λ (v : List Cell). a ++ row_text Order v) c.order_cells.ensures
+    ∙ ap (λ (v : OrderAccount). a ++ row_text Order (order_cells n v)) c.account_of-account.ensures)
 
 pub returns : goal.returns
 returns g c =

@@ -7,11 +7,11 @@ use Rattle.floor.proofs.Counts.{cancelled_count}
 use Rattle.floor.proofs.Effects.{cancelled_effect}
 use Rattle.floor.proofs.floor.Floor.cancelled.Goals as goal
 
-pub invariant-of-self : goal.invariant-of-self
-invariant-of-self g c =
+pub invariant_of-self : goal.invariant_of-self
+invariant_of-self g c =
     let xs = vec_items c.args.self.now.day.table.orders in
     let h : c.args.k < length xs = search rules in
-    let e = c.set-live.ensures.orders ∙ ap (λ (q : Quantity). set xs c.args.k (with_live (order_at xs c.args.k) q.number)) c.new.ensures in
+    let e = c.set_live.ensures.orders ∙ ap (λ (q : Quantity). set xs c.args.k (with_live (order_at xs c.args.k) q.number)) c.new.ensures in
     let n = cancelled_count xs _ c.args.k h e in
     (search rules, (search rules, (search rules, (search rules, (search rules, (search rules, (search rules, tt)))))))
 
@@ -22,6 +22,6 @@ returns g c =
     let h : c.args.k < length xs = search rules in
     let x = get_or_read xs c.args.k c.index.result.now h c.index.ensures no_one in
     record {
-      after = cancelled_effect s c.args.k c.args.reason c.args.time c.index.result.now _ _ _ _ _ _ _ _ (ap vec_items c.set-live.ensures.cancels) x c.item-of-item.ensures c.amount-of-amount.ensures c.release.ensures.after c.order-line-line.ensures c.append.ensures.after c.new.ensures c.set-live.ensures.orders;
+      after = cancelled_effect s c.args.k c.args.reason c.args.time c.index.result.now _ _ _ _ _ _ _ _ (ap vec_items c.set_live.ensures.cancels) x c.item_of-item.ensures c.amount_of-amount.ensures c.release.ensures.after c.order_line-line.ensures c.append.ensures.after c.new.ensures c.set_live.ensures.orders;
       room = c.release.ensures.room;
     }

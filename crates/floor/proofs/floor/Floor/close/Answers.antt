@@ -20,10 +20,10 @@ returns-then-not-self g c =
 pub returns : goal.returns
 returns g c =
     let s = view g.L.Ledger.book g.T.Tape.contents c.args.self.now in
-    let t = ap shut c.cancel-all.ensures.after in
+    let t = ap shut c.cancel_all.ensures.after in
     record {
-      answer = wrote s (closed s) _ _ _ _ _ (sym (ap (λ (b : Bool). unless b DayNotOpen (Ok tt)) c.if-not-self.false)) t c.saturating-sub.ensures c.count.ensures c.count-before.ensures;
+      answer = wrote s (closed s) _ _ _ _ _ (sym (ap (λ (b : Bool). unless b DayNotOpen (Ok tt)) c.if-not-self.false)) t c.saturating_sub.ensures c.count.ensures c.count-before.ensures;
       after = t;
       refused-changes-nothing = λ e. absurd (true≢false e);
-      room = c.cancel-all.ensures.room;
+      room = c.cancel_all.ensures.room;
     }

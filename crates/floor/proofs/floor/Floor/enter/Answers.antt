@@ -5,10 +5,10 @@ use Rattle.floor.proofs.Refusing.{refusing}
 use Rattle.floor.proofs.Called.{entered_length, entered_deals, within_more, entered_is, wrote}
 use Rattle.floor.proofs.floor.Floor.enter.Goals as goal
 
-pub returns-in-err-order : goal.returns-in-err-order
-returns-in-err-order g c =
+pub returns-in_err-order : goal.returns-in_err-order
+returns-in_err-order g c =
     let s = view g.L.Ledger.book g.T.Tape.contents c.args.self.now in
-    let p = refusing c.from-residual.result _ _ _ s _ c.from-residual.ensures.1 c.in-err-order.ensures.answer in
+    let p = refusing c.from_residual.result _ _ _ s _ c.from_residual.ensures.1 c.in_err-order.ensures.answer in
     record { answer = p.0; after = p.1; refused-changes-nothing = λ _. refl; room = refl }
 
 pub follow-requires : goal.follow-requires
@@ -27,10 +27,10 @@ returns g c =
     let s = view g.L.Ledger.book g.T.Tape.contents c.args.self.now in
     let v = view g.L.Ledger.book g.T.Tape.contents c.entered.new.self in
     let w = view g.L.Ledger.book g.T.Tape.contents c.follow.new.self in
-    let k = c.in-ok-order.ensures in
-    let t = entered_is s v w c.args.entry c.in-ok-order.order _ _ _ k.order c.decide-next.ensures.value c.deref.ensures.value c.deref-2.ensures.value c.entered.ensures.after c.follow.ensures.after in
+    let k = c.in_ok-order.ensures in
+    let t = entered_is s v w c.args.entry c.in_ok-order.order _ _ _ k.order c.decide-next.ensures.value c.deref.ensures.value c.deref-2.ensures.value c.entered.ensures.after c.follow.ensures.after in
     record {
-      answer = wrote s _ w _ _ _ _ k.answer t c.saturating-sub.ensures c.count.ensures c.count-before.ensures;
+      answer = wrote s _ w _ _ _ _ k.answer t c.saturating_sub.ensures c.count.ensures c.count-before.ensures;
       after = t;
       refused-changes-nothing = λ e. absurd (true≢false e);
       room = c.follow.ensures.room ∙ c.entered.ensures.room;

@@ -5,8 +5,8 @@ use Rattle.floor.proofs.Counts.{entered_places}
 use Rattle.floor.proofs.Effects.{entered_effect}
 use Rattle.floor.proofs.floor.Floor.entered.Goals as goal
 
-pub invariant-of-self : goal.invariant-of-self
-invariant-of-self g c =
+pub invariant_of-self : goal.invariant_of-self
+invariant_of-self g c =
     let f = c.args.self.now in
     let h : (live_count (vec_items f.day.table.orders) + (vec_len f.day.table.orders + vec_len f.day.table.cancels)) + 2 ≤ 512 = search rules in (
       search rules,
@@ -17,7 +17,7 @@ invariant-of-self g c =
           (
             search rules,
             (
-              entered_places (vec_items f.day.table.orders) _ (record { order = c.args.o; live = c.args.o.quantity }) _ _ _ c.push-reserved.ensures.items c.push-reserved.ensures.len h,
+              entered_places (vec_items f.day.table.orders) _ (record { order = c.args.o; live = c.args.o.quantity }) _ _ _ c.push_reserved.ensures.items c.push_reserved.ensures.len h,
               (search rules, (search rules, tt)),
             ),
           ),
@@ -29,6 +29,6 @@ pub returns : goal.returns
 returns g c =
     let s = view g.L.Ledger.book g.T.Tape.contents c.args.self.now in
     record {
-      after = entered_effect s c.args.o _ _ _ _ _ _ c.item-of-item.ensures c.amount-of-amount.ensures c.hold.ensures.after c.order-line-line.ensures c.append.ensures.after c.push-reserved.ensures.items;
+      after = entered_effect s c.args.o _ _ _ _ _ _ c.item_of-item.ensures c.amount_of-amount.ensures c.hold.ensures.after c.order_line-line.ensures c.append.ensures.after c.push_reserved.ensures.items;
       room = c.hold.ensures.room;
     }

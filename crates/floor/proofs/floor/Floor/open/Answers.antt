@@ -7,17 +7,17 @@ use Rattle.floor.specs.View.{view}
 use Rattle.floor.proofs.Refusing.{opening_refused}
 use Rattle.floor.proofs.floor.Floor.open.Goals as goal
 
-pub returns-in-err-day : goal.returns-in-err-day
-returns-in-err-day g c =
+pub returns-in_err-day : goal.returns-in_err-day
+returns-in_err-day g c =
     let s = view g.L.Ledger.book g.T.Tape.contents c.args.self.now in
-    let k = c.in-err-day.ensures in
-    let p = opening_refused c.from-residual.result _ s c.args.date c.args.list.now _ c.from-residual.ensures.1 k.answer k.names-fault in
+    let k = c.in_err-day.ensures in
+    let p = opening_refused c.from_residual.result _ s c.args.date c.args.list.now _ c.from_residual.ensures.1 k.answer k.names_fault in
     record { answer = p.0; names-fault = p.1; after = p.2; refused-changes-nothing = λ _. refl; room = refl }
 
 pub returns : goal.returns
 returns g c =
     let s = view g.L.Ledger.book g.T.Tape.contents c.args.self.now in
-    let k = c.in-ok-day.ensures in
+    let k = c.in_ok-day.ensures in
     let d = k.found.0 in
     let t = c.begin.ensures.after ∙ ap (λ (n : ℕ). begin_after n s.tape) d in
     record {
@@ -27,7 +27,7 @@ returns g c =
           λ i. record {
             day_open = true;
             last_date = d i;
-            securities = c.list-all.ensures.items i;
+            securities = c.list_all.ensures.items i;
             orders = c.clear.ensures.items i;
             cancels = c.clear-2.ensures.items i;
             agreed = c.clear-3.ensures.items i;

@@ -9,19 +9,19 @@ use Rattle.floor.proofs.Payments.{ledger_refused, ledger_granted, told_line}
 use Rattle.floor.proofs.Refusing.{refusing}
 use Rattle.floor.proofs.floor.Floor.pay_in.Goals as goal
 
-pub returns-in-err-line : goal.returns-in-err-line
-returns-in-err-line g c =
+pub returns-in_err-line : goal.returns-in_err-line
+returns-in_err-line g c =
     let s = view g.L.Ledger.book g.T.Tape.contents c.args.self.now in
-    let p = refusing c.from-residual.result _ _ _ s _ c.from-residual.ensures.1 (paying_refused s c.args.payment _ _ c.in-err-line.ensures.answer) in
+    let p = refusing c.from_residual.result _ _ _ s _ c.from_residual.ensures.1 (paying_refused s c.args.payment _ _ c.in_err-line.ensures.answer) in
     record { answer = p.0; after = p.1; refused-changes-nothing = λ _. refl; room = refl }
 
 pub returns-in-Err : goal.returns-in-Err
 returns-in-Err g c =
     let s = view g.L.Ledger.book g.T.Tape.contents c.args.self.now in
-    let k = c.in-ok-line.ensures in
+    let k = c.in_ok-line.ensures in
     let e = c.in-Err.ensures in
     record {
-      answer = ledger_refused s c.args.payment (pay_in_answer s.book) c.in-ok-line.line c.in-Err.e _ k.answer k.line e.answer;
+      answer = ledger_refused s c.args.payment (pay_in_answer s.book) c.in_ok-line.line c.in-Err.e _ k.answer k.line e.answer;
       after = e.after;
       refused-changes-nothing = λ _. e.after;
       room = e.room;
@@ -30,11 +30,11 @@ returns-in-Err g c =
 pub returns-in-Ok : goal.returns-in-Ok
 returns-in-Ok g c =
     let s = view g.L.Ledger.book g.T.Tape.contents c.args.self.now in
-    let k = c.in-ok-line.ensures in
+    let k = c.in_ok-line.ensures in
     let e = c.in-Ok.ensures in
-    let t = told_line s _ PaidIn c.args.payment c.in-ok-line.line k.line e.after in
+    let t = told_line s _ PaidIn c.args.payment c.in_ok-line.line k.line e.after in
     record {
-      answer = wrote s _ _ _ _ _ _ (ledger_granted s c.args.payment (pay_in_answer s.book) c.in-ok-line.line k.answer k.line e.answer) t c.saturating-sub.ensures c.count.ensures c.count-before.ensures;
+      answer = wrote s _ _ _ _ _ _ (ledger_granted s c.args.payment (pay_in_answer s.book) c.in_ok-line.line k.answer k.line e.answer) t c.saturating_sub.ensures c.count.ensures c.count-before.ensures;
       after = t;
       refused-changes-nothing = λ e. absurd (true≢false e);
       room = e.room;
