@@ -34,6 +34,7 @@ use Rattle.rules.specs.Effects.{lines_of, effect, effects}
 use Rattle.rules.specs.Calls.{Answer, unless, any_held, open_answer, opened, found_answer, target_of, cancel_answer, with_cancel, by_ledger, paying_answer, pay_in_reply, draw_out_reply, payment_line, close_answer, shut}
 use Rattle.rules.specs.Plain.{Act, opens, cancels, pays_in, draws_out, closes, leave, nothing}
 use Rattle.laws.specs.Accepted.{day}
+use Rattle.laws.specs.Ending.{StrictAll}
 use Rattle.laws.specs.Days.{Day, step, run, ValidAll}
 use Rattle.laws.specs.Sound.{Distinct}
 use Rattle.laws.specs.Reserves.{load}
@@ -75,6 +76,15 @@ Quiet (Dealt i j q time ∷ es) = ⊥
 Quiet (Cancelled k why time ∷ es) = Quiet es
 Quiet (PaidIn p ∷ es) = Quiet es
 Quiet (DrawnOut p ∷ es) = Quiet es
+
+-- without a deal, valid is all that is asked
+quiet_strict : (es : List Event) (d : Day) → Quiet es → ValidAll d es → StrictAll d es
+quiet_strict [] d q v = tt
+quiet_strict (Entered o ∷ es) d q v = ((v.0, tt), quiet_strict es (step d (Entered o)) q v.1)
+quiet_strict (Dealt i j n time ∷ es) d q v = absurd q
+quiet_strict (Cancelled k why time ∷ es) d q v = ((v.0, tt), quiet_strict es (step d (Cancelled k why time)) q v.1)
+quiet_strict (PaidIn p ∷ es) d q v = ((v.0, tt), quiet_strict es (step d (PaidIn p)) q v.1)
+quiet_strict (DrawnOut p ∷ es) d q v = ((v.0, tt), quiet_strict es (step d (DrawnOut p)) q v.1)
 
 record Quietly (ss : List Security) (d : Day) (as' : List Agreement) (es : List Event) : Type 0 where
   sized : all_sized ss (run d es).lines ≡ true
@@ -153,7 +163,7 @@ unfolding effect
 cancel_did_at b s c None e time h v st = absurd (not_ok _ h)
 cancel_did_at b s c (Some k) e time h v st =
     let es : List Event = Cancelled k Withdrawn c.time ∷ [] in
-    let w = went_all b es s v (time, tt, tt) st.going in
+    let w = went_all b es s (quiet_strict es (day s) tt v) (time, tt, tt) st.going in
     record {
       granted = cancelled_granted s c (Cancelled k Withdrawn c.time) w.granted;
       going = cancelled_going b s c k c.time v st.going w;
@@ -196,7 +206,7 @@ pub close_did : (b : Book) (s : State) → Stands b s → Did b s closes
 close_did b s st =
     let es : List Event = close_events s.orders in
     let c = closes_valid (day s) in
-    let w = went_all b es s c.valid (close_ready s.orders 0 s) st.going in
+    let w = went_all b es s (quiet_strict es (day s) (close_quiet s.orders 0) c.valid) (close_ready s.orders 0 s) st.going in
     let plain : (effects s es).orders ≡ leave (λ x. true) nothing s.orders = ap (λ (d : Day). d.orders) w.same ∙ c.leaves ∙ closes_plain s.orders in
     let g = w.going in
     record {
@@ -232,7 +242,7 @@ pay_in_did b s p h st =
     let es : List Event = PaidIn (payment_line p) ∷ [] in
     let q = payment_passed s p (pay_in_answer s.book p.account p.item p.sum) h in
     let room = q.room in
-    let w = went_all b es s (payments_in_valid s p h) (q.ranged, omega (arith, room), tt) st.going in
+    let w = went_all b es s (quiet_strict es (day s) tt (payments_in_valid s p h)) (q.ranged, omega (arith, room), tt) st.going in
     let e = effects_orders es s in
     record { granted = w.granted; plain = same_day _ _ _ _ (effects_securities es s) e; stands = paid_stands b s es tt st w e }
 
@@ -241,7 +251,7 @@ draw_out_did b s p h st =
     let es : List Event = DrawnOut (payment_line p) ∷ [] in
     let q = payment_passed s p (draw_out_answer s.book p.account p.item p.sum) h in
     let room = q.room in
-    let w = went_all b es s (payments_out_valid s p h) (q.ranged, omega (arith, room), tt) st.going in
+    let w = went_all b es s (quiet_strict es (day s) tt (payments_out_valid s p h)) (q.ranged, omega (arith, room), tt) st.going in
     let e = effects_orders es s in
     record { granted = w.granted; plain = same_day _ _ _ _ (effects_securities es s) e; stands = paid_stands b s es tt st w e }
 

@@ -34,7 +34,7 @@ use Rattle.laws.specs.Single.{KeptSingle}
 use Rattle.laws.specs.Plainly.{tables}
 use Rattle.laws.specs.Sized.{LiveSized, all_sized}
 use Rattle.laws.specs.Agreed.{Agreed}
-use Rattle.laws.proofs.Accepting.{Listed, EntryPassed, entry_passed, entries_valid}
+use Rattle.laws.proofs.Accepting.{Listed, EntryPassed, entry_passed, entries_strict}
 use Rattle.laws.proofs.Loading.{load_entered}
 use Rattle.laws.proofs.Plainness.{entries_plain}
 use Rattle.laws.proofs.Singly.{searches_single}
@@ -119,11 +119,11 @@ entry_ready b s e h g =
     let lines = p.listed.lines in
     let places = p.listed.places in
     let few = g.few in
-    let v = entries_valid s e h in
+    let v = entries_strict s e h in
     let w = entry_writable s.orders e p.ranged p.listed.limited in
     let spare : Spare s.tape.capacity (length s.cancels) (day s) (Entered o) = (omega (arith, lines), omega (arith, places)) in
     let one = went b s (Entered o) v.0 w spare g in
-    let l = load_entered (day s) o v.0.some in
+    let l = load_entered (day s) o v.0.0.some in
     let m = ap load one.same in
     let c = one.capacity in
     let n = length_push s.orders (record { order = o; live = o.quantity }) in
@@ -135,7 +135,7 @@ entry_did b s e h st =
     let o : Order = order_for t e in
     let es : List Event = entry_events s.securities t o in
     let g = st.going in
-    let all = went_all b es s (entries_valid s e h) (entry_ready b s e h g) g in
+    let all = went_all b es s (entries_strict s e h) (entry_ready b s e h g) g in
     let placed = g.placed in
     let one = searches_single t o (omega (arith, placed)) st.single.numbered st.single.single in
     let plain : (effects s es).orders ≡ plain_entry (plainly s) o = effects_orders es s ∙ entries_plain s.securities t o one.0 one.1 in

@@ -16,6 +16,7 @@ use Rattle.rules.specs.State.{State}
 use Rattle.rules.specs.Orders.{order_at, no_one, is_live, live_count}
 use Rattle.rules.specs.Effects.{order_line, lines_of, written, orders_after, book_after, deals_after, effect, effects}
 use Rattle.laws.specs.Accepted.{day}
+use Rattle.laws.specs.Ending.{Strict, StrictAll}
 use Rattle.laws.specs.Days.{Day, step, run, Valid, ValidAll}
 use Rattle.laws.specs.Fitting.{Fit, with_lines}
 use Rattle.laws.specs.Reserves.{load}
@@ -97,21 +98,21 @@ pub record Went (b : Book) (s : State) (e : Event) : Type 0 where
   pub capacity : (effect s e).tape.capacity ≡ s.tape.capacity
   pub going : Going b (effect s e)
 
-pub went : (b : Book) (s : State) (e : Event) → Valid (day s) e → Writable e → Spare s.tape.capacity (length s.cancels) (day s) e → Going b s → Went b s e
+pub went : (b : Book) (s : State) (e : Event) → Strict (day s) e → Writable e → Spare s.tape.capacity (length s.cancels) (day s) e → Going b s → Went b s e
 unfolding effect
 went b s e v w spare g =
     let ls : List Line = lines_of e s.orders (s.deals + 1) in
     let few = g.few in
     let placed = g.placed in
-    let ranged = good_lines (day s) e v w g.fit (omega (arith, few, placed)) in
-    let room = has_room_for b s.tape.capacity (length s.cancels) (day s) e v spare g in
+    let ranged = good_lines (day s) e v.0 w g.fit (omega (arith, few, placed)) in
+    let room = has_room_for b s.tape.capacity (length s.cancels) (day s) e v.0 spare g in
     let taken = lines_taken ls s.tape ranged room in
     let same : day (effect s e) ≡ step (day s) e = ap (λ (c : Contents). record { orders = orders_after e s.orders; book = book_after e s.orders s.book; lines = c.lines; deals = deals_after e s.deals }) taken in
     let capacity : (effect s e).tape.capacity ≡ s.tape.capacity = ap (λ (c : Contents). c.capacity) taken in
     let P : Day → Type 0 = λ d. Good b s.tape.capacity (length s.cancels) d in
     let Q : ℕ → Type 0 = λ n. Good b n (length s.cancels) (day (effect s e)) in
     record {
-      granted = record { moved = moves_granted b (day s) e v g.sound; appended = all_appended ls s.tape ranged room };
+      granted = record { moved = moves_granted b (day s) e v.0 g.sound; appended = all_appended ls s.tape ranged room };
       same = same;
       capacity = capacity;
       going = subst Q (sym capacity) (subst P (sym same) (good_step b s.tape.capacity (length s.cancels) (day s) e v w spare g));
@@ -127,11 +128,11 @@ pub record WentAll (b : Book) (s : State) (es : List Event) : Type 0 where
   pub same : day (effects s es) ≡ run (day s) es
   pub going : Going b (effects s es)
 
-pub went_all : (b : Book) (es : List Event) (s : State) → ValidAll (day s) es → ReadyAll s es → Going b s → WentAll b s es
+pub went_all : (b : Book) (es : List Event) (s : State) → StrictAll (day s) es → ReadyAll s es → Going b s → WentAll b s es
 went_all b [] s v r g = record { granted = tt; same = refl; going = g }
 went_all b (e ∷ es) s v r g =
     let one = went b s e v.0 r.0 r.1 g in
-    let P : Day → Type 0 = λ d. ValidAll d es in
+    let P : Day → Type 0 = λ d. StrictAll d es in
     let rest = went_all b es (effect s e) (subst P (sym one.same) v.1) r.2 one.going in
     record { granted = (one.granted, rest.granted); same = rest.same ∙ ap (λ d. run d es) one.same; going = rest.going }
 

@@ -15,6 +15,7 @@ use Rattle.rules.specs.declared.order.Order.{Order}
 use Rattle.rules.specs.declared.order.Standing.{Standing}
 use Rattle.rules.specs.Orders.{order_at, no_one, live_count, less_live, with_live}
 use Rattle.rules.specs.Effects.{order_line, lines_of, orders_after}
+use Rattle.laws.specs.Ending.{Strict}
 use Rattle.laws.specs.Days.{Day, step, Valid}
 use Rattle.laws.specs.Sound.{Sound}
 use Rattle.laws.specs.Paired.{Paired}
@@ -96,22 +97,22 @@ ended : (x : Standing) (q : ℕ) → q ≡ x.live.number → ends x q ≡ 1
 ended x q e = ap (λ (b : Bool). cond b 0 1) (le-ltb 0 (x.live.number - q) (omega (arith, e)))
 
 -- what is written, and what is live afterwards
-pub good_step : (b : Book) (capacity cancels : ℕ) (d : Day) (e : Event) → Valid d e → Writable e → Spare capacity cancels d e → Good b capacity cancels d → Good b capacity cancels (step d e)
+pub good_step : (b : Book) (capacity cancels : ℕ) (d : Day) (e : Event) → Strict d e → Writable e → Spare capacity cancels d e → Good b capacity cancels d → Good b capacity cancels (step d e)
 good_step b capacity cancels d e v w s g =
     let r = room e v s in
     record {
-      sound = step_sound b d e v g.sound;
-      paired = deals_paired (e ∷ []) d (v, tt) g.paired;
-      first = entries_first d e v g.first;
-      fit = fit_step d e v w g.fit;
+      sound = step_sound b d e v.0 g.sound;
+      paired = deals_paired (e ∷ []) d (v.0, tt) g.paired;
+      first = entries_first d e v.0 g.first;
+      fit = fit_step d e v.0 w g.fit;
       loaded = r.0;
       placed = r.1;
       few = r.2;
     }
   where
-    room : (e : Event) → Valid d e → Spare capacity cancels d e → (load (step d e) ≤ capacity) × (live_count (step d e).orders + (length (step d e).orders + cancels) ≤ 512) × ((step d e).deals ≤ length (step d e).orders)
+    room : (e : Event) → Strict d e → Spare capacity cancels d e → (load (step d e) ≤ capacity) × (live_count (step d e).orders + (length (step d e).orders + cancels) ≤ 512) × ((step d e).deals ≤ length (step d e).orders)
     room (Entered o) v s =
-        let l = load_entered d o v.some in
+        let l = load_entered d o v.0.some in
         let n = length-append d.lines (lines_of (Entered o) d.orders (d.deals + 1)) in
         let m = length_push d.orders (record { order = o; live = o.quantity }) in
         let few = g.few in
@@ -119,17 +120,17 @@ good_step b capacity cancels d e v w s g =
         let s1 = s.1 in
         (omega (arith, l, s0), omega (arith, l, n, m, s1), omega (arith, m, few))
     room (Dealt i j q time) v s =
-        let l = load_dealt d i j q time v in
+        let l = load_dealt d i j q time v.0 in
         let n = length-append d.lines (lines_of (Dealt i j q time) d.orders (d.deals + 1)) in
         let m = (same_two d.orders i j q.number).0 in
         let p = g.placed in
         let s0 = s.0 in
         let s1 = s.1 in
         let one : 1 ≤ ends (order_at d.orders i) q.number + ends (order_at d.orders j) q.number =
-        ⊎_elim (λ (x : q.number ≡ (order_at d.orders i).live.number). let z = ended (order_at d.orders i) q.number x in omega (arith, z)) (λ (x : q.number ≡ (order_at d.orders j).live.number). let z = ended (order_at d.orders j) q.number x in omega (arith, z)) v.agree.ends-one in
+        ⊎_elim (λ (x : q.number ≡ (order_at d.orders i).live.number). let z = ended (order_at d.orders i) q.number x in omega (arith, z)) (λ (x : q.number ≡ (order_at d.orders j).live.number). let z = ended (order_at d.orders j) q.number x in omega (arith, z)) v.1 in
         (omega (arith, l, one, s0), omega (arith, l, n, m, p), omega (arith, m, s1))
     room (Cancelled k why time) v s =
-        let l = load_cancelled d k why time v in
+        let l = load_cancelled d k why time v.0 in
         let n = length-append d.lines (lines_of (Cancelled k why time) d.orders (d.deals + 1)) in
         let m = length-set d.orders k (with_live (order_at d.orders k) 0) in
         let p = g.placed in

@@ -30,7 +30,7 @@ returns-in-OpenDay g c =
       did =
           did_call g.L.PairLedger.shares (view g.L.Ledger.book g.T.Tape.contents f) (view g.L.Ledger.book g.T.Tape.contents c.open-reply.new.self) (g.L.Ledger.room f.ledger) (g.L.Ledger.room c.open-reply.new.self.ledger) (opens c.in-OpenDay.date c.as-slice.result.now) (set_up_task l c.args.act) c.open-reply.result c.reply-answer.result
           (ap (set_up_task l) c.in-OpenDay.is ∙ ap (λ (x : List ListEntry). asks (call (opens c.in-OpenDay.date x))) (sym c.as-slice.ensures.value))
-          (e.answer, e.names-fault) e.after e.room c.reply-answer.ensures;
+          (e.answer, e.names_fault) e.after e.room c.reply-answer.ensures;
       gathers = c.clear.ensures.items ∙ sym (ap (set_up_gathers l) c.in-OpenDay.is);
     }
 

@@ -15,14 +15,14 @@ pub returns-in_err-asked : goal.returns-in_err-asked
 returns-in_err-asked g c =
     let s = view g.L.Ledger.book g.T.Tape.contents c.args.self.now in
     let p = refusing c.from_residual.result _ _ _ s _ c.from_residual.ensures.1 (asked_refused s c.args.cancel _ c.in_err-asked.ensures.answer) in
-    record { answer = p.0; after = p.1; refused-changes-nothing = λ _. refl; room = refl }
+    record { answer = p.0; after = p.1; refused_changes_nothing = λ _. refl; room = refl }
 
 pub returns-in_err-place : goal.returns-in_err-place
 returns-in_err-place g c =
     let s = view g.L.Ledger.book g.T.Tape.contents c.args.self.now in
     let k = c.in_ok-asked.ensures in
     let p = refusing c.from_residual-in_err-place.result _ _ _ s _ c.from_residual-in_err-place.ensures.1 (asked_passed s c.args.cancel c.in_ok-asked.asked _ k.answer k.found (c.in_err-place.ensures.answer s.book s.tape)) in
-    record { answer = p.0; after = p.1; refused-changes-nothing = λ _. refl; room = refl }
+    record { answer = p.0; after = p.1; refused_changes_nothing = λ _. refl; room = refl }
 
 pub push_reserved-requires : goal.push_reserved-requires
 push_reserved-requires g c =
@@ -47,7 +47,15 @@ invariant_of-self g c =
     let d : live_count (vec_items f.day.table.orders) + 1 ≡ live_count (vec_items c.args.self.now.day.table.orders) = cancelled_live s.orders v.orders _ k.within k.live (cancelled_orders s v _ _ _ c.cancelled.ensures.after) in
     let p = c.args.self.now.places in
     let q = c.push_reserved.ensures.len in
-    (f.orders_fit, (search rules, (f.agreed_fit, (f.securities_fit, (omega (arith, d, l, n, p, q), (f.few_deals, (f.few_agreed, tt)))))))
+    record {
+      orders_fit = f.orders_fit;
+      cancels_fit = search rules;
+      agreed_fit = f.agreed_fit;
+      securities_fit = f.securities_fit;
+      places = omega (arith, d, l, n, p, q);
+      few_deals = f.few_deals;
+      few_agreed = f.few_agreed;
+    }
 
 pub returns : goal.returns
 returns g c =
@@ -60,6 +68,6 @@ returns g c =
     record {
       answer = wrote s _ (with_names v cs) _ _ _ _ (asked_passed s c.args.cancel c.in_ok-asked.asked _ a.answer a.found (k.answer s.book s.tape)) t c.saturating_sub.ensures c.count.ensures c.count-before.ensures;
       after = t;
-      refused-changes-nothing = λ e. absurd (true≢false e);
+      refused_changes_nothing = λ e. absurd (true≢false e);
       room = c.cancelled.ensures.room;
     }

@@ -16,8 +16,8 @@ index-requires g c = let l = c.loop-k.invariant.0.long in search rules
 
 pub loop-k-preserved : goal.loop-k-preserved
 loop-k-preserved g c =
-    let V : Floor g.row.L.Denot g.row.T.Denot → _ = view g.L.Ledger.book g.T.Tape.contents in
-    let R : Floor g.row.L.Denot g.row.T.Denot → _ = room_of g.L.Ledger.room in
+    let V : Floor g.row.L.Denot g.row.T.Denot g.L.Ledger g.T.Tape → _ = view g.L.Ledger.book g.T.Tape.contents in
+    let R : Floor g.row.L.Denot g.row.T.Denot g.L.Ledger g.T.Tape → _ = room_of g.L.Ledger.room in
     let xs = vec_items c.loop-k.self.day.table.orders in
     let l = c.loop-k.invariant.0.long in
     let h : c.loop-k.k < length xs = search rules in
@@ -30,7 +30,7 @@ loop-k-preserved g c =
         ap R w.self-is ∙ w.cancelled.ensures.room ∙ c.loop-k.invariant.1,
       )
       | else-is_live w ↦ (
-        subst (λ (f : Floor g.row.L.Denot g.row.T.Denot). Closing (V c.args.self.now) (V f) (c.loop-k.k + 1)) (sym w.self-is)
+        subst (λ (f : Floor g.row.L.Denot g.row.T.Denot g.L.Ledger g.T.Tape). Closing (V c.args.self.now) (V f) (c.loop-k.k + 1)) (sym w.self-is)
             (closing_dead _ (V c.loop-k.self) c.loop-k.k k c.loop-k.invariant.0 (live ∙ w.if-is_live.false)),
         ap R w.self-is ∙ c.loop-k.invariant.1,
       )

@@ -13,7 +13,15 @@ invariant_of-self g c =
     let h : c.args.k < length xs = search rules in
     let e = c.set_live.ensures.orders ∙ ap (λ (q : Quantity). set xs c.args.k (with_live (order_at xs c.args.k) q.number)) c.new.ensures in
     let n = cancelled_count xs _ c.args.k h e in
-    (search rules, (search rules, (search rules, (search rules, (search rules, (search rules, (search rules, tt)))))))
+    record {
+      orders_fit = search rules;
+      cancels_fit = search rules;
+      agreed_fit = search rules;
+      securities_fit = search rules;
+      places = search rules;
+      few_deals = search rules;
+      few_agreed = search rules;
+    }
 
 pub returns : goal.returns
 returns g c =

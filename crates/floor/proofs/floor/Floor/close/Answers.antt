@@ -13,7 +13,7 @@ returns-then-not-self g c =
     record {
       answer = sym (ap (λ (b : Bool). counted (unless b DayNotOpen (Ok tt)) (more_lines s (closed s))) c.if-not-self.true);
       after = refl;
-      refused-changes-nothing = λ _. refl;
+      refused_changes_nothing = λ _. refl;
       room = refl;
     }
 
@@ -24,6 +24,6 @@ returns g c =
     record {
       answer = wrote s (closed s) _ _ _ _ _ (sym (ap (λ (b : Bool). unless b DayNotOpen (Ok tt)) c.if-not-self.false)) t c.saturating_sub.ensures c.count.ensures c.count-before.ensures;
       after = t;
-      refused-changes-nothing = λ e. absurd (true≢false e);
+      refused_changes_nothing = λ e. absurd (true≢false e);
       room = c.cancel_all.ensures.room;
     }

@@ -17,7 +17,15 @@ invariant_of-self g c =
     let t = dealt_orders xs _ _ c.args.buyer c.args.seller c.args.q.number c.index.result.now c.index-2.result.now _ _ x y c.rest_of.ensures c.rest_of-2.ensures c.set_live.ensures.orders c.set_live-2.ensures.orders in
     let a = ap live_count t in
     let n = dealt_count xs c.args.buyer c.args.seller c.args.q.number hi hj in
-    (search rules, (search rules, (search rules, (search rules, (search rules, (search rules, (search rules, tt)))))))
+    record {
+      orders_fit = search rules;
+      cancels_fit = search rules;
+      agreed_fit = search rules;
+      securities_fit = search rules;
+      places = search rules;
+      few_deals = search rules;
+      few_agreed = search rules;
+    }
 
 pub returns : goal.returns
 returns g c =

@@ -13,7 +13,7 @@ pub returns-in_err-line : goal.returns-in_err-line
 returns-in_err-line g c =
     let s = view g.L.Ledger.book g.T.Tape.contents c.args.self.now in
     let p = refusing c.from_residual.result _ _ _ s _ c.from_residual.ensures.1 (paying_refused s c.args.payment _ _ c.in_err-line.ensures.answer) in
-    record { answer = p.0; after = p.1; refused-changes-nothing = λ _. refl; room = refl }
+    record { answer = p.0; after = p.1; refused_changes_nothing = λ _. refl; room = refl }
 
 pub returns-in-Err : goal.returns-in-Err
 returns-in-Err g c =
@@ -23,7 +23,7 @@ returns-in-Err g c =
     record {
       answer = ledger_refused s c.args.payment (draw_out_answer s.book) c.in_ok-line.line c.in-Err.e _ k.answer k.line e.answer;
       after = e.after;
-      refused-changes-nothing = λ _. e.after;
+      refused_changes_nothing = λ _. e.after;
       room = e.room;
     }
 
@@ -36,6 +36,6 @@ returns-in-Ok g c =
     record {
       answer = wrote s _ _ _ _ _ _ (ledger_granted s c.args.payment (draw_out_answer s.book) c.in_ok-line.line k.answer k.line e.answer) t c.saturating_sub.ensures c.count.ensures c.count-before.ensures;
       after = t;
-      refused-changes-nothing = λ e. absurd (true≢false e);
+      refused_changes_nothing = λ e. absurd (true≢false e);
       room = e.room;
     }

@@ -9,7 +9,7 @@ pub returns-in_err-order : goal.returns-in_err-order
 returns-in_err-order g c =
     let s = view g.L.Ledger.book g.T.Tape.contents c.args.self.now in
     let p = refusing c.from_residual.result _ _ _ s _ c.from_residual.ensures.1 c.in_err-order.ensures.answer in
-    record { answer = p.0; after = p.1; refused-changes-nothing = λ _. refl; room = refl }
+    record { answer = p.0; after = p.1; refused_changes_nothing = λ _. refl; room = refl }
 
 pub follow-requires : goal.follow-requires
 follow-requires g c =
@@ -32,6 +32,6 @@ returns g c =
     record {
       answer = wrote s _ w _ _ _ _ k.answer t c.saturating_sub.ensures c.count.ensures c.count-before.ensures;
       after = t;
-      refused-changes-nothing = λ e. absurd (true≢false e);
+      refused_changes_nothing = λ e. absurd (true≢false e);
       room = c.follow.ensures.room ∙ c.entered.ensures.room;
     }

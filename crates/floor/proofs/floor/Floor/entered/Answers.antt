@@ -8,22 +8,16 @@ use Rattle.floor.proofs.floor.Floor.entered.Goals as goal
 pub invariant_of-self : goal.invariant_of-self
 invariant_of-self g c =
     let f = c.args.self.now in
-    let h : (live_count (vec_items f.day.table.orders) + (vec_len f.day.table.orders + vec_len f.day.table.cancels)) + 2 ≤ 512 = search rules in (
-      search rules,
-      (
-        search rules,
-        (
-          search rules,
-          (
-            search rules,
-            (
-              entered_places (vec_items f.day.table.orders) _ (record { order = c.args.o; live = c.args.o.quantity }) _ _ _ c.push_reserved.ensures.items c.push_reserved.ensures.len h,
-              (search rules, (search rules, tt)),
-            ),
-          ),
-        ),
-      ),
-    )
+    let h : (live_count (vec_items f.day.table.orders) + (vec_len f.day.table.orders + vec_len f.day.table.cancels)) + 2 ≤ 512 = search rules in
+    record {
+      orders_fit = search rules;
+      cancels_fit = search rules;
+      agreed_fit = search rules;
+      securities_fit = search rules;
+      places = entered_places (vec_items f.day.table.orders) _ (record { order = c.args.o; live = c.args.o.quantity }) _ _ _ c.push_reserved.ensures.items c.push_reserved.ensures.len h;
+      few_deals = search rules;
+      few_agreed = search rules;
+    }
 
 pub returns : goal.returns
 returns g c =

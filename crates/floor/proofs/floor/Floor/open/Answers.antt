@@ -12,7 +12,7 @@ returns-in_err-day g c =
     let s = view g.L.Ledger.book g.T.Tape.contents c.args.self.now in
     let k = c.in_err-day.ensures in
     let p = opening_refused c.from_residual.result _ s c.args.date c.args.list.now _ c.from_residual.ensures.1 k.answer k.names_fault in
-    record { answer = p.0; names-fault = p.1; after = p.2; refused-changes-nothing = λ _. refl; room = refl }
+    record { answer = p.0; names_fault = p.1; after = p.2; refused_changes_nothing = λ _. refl; room = refl }
 
 pub returns : goal.returns
 returns g c =
@@ -22,7 +22,7 @@ returns g c =
     let t = c.begin.ensures.after ∙ ap (λ (n : ℕ). begin_after n s.tape) d in
     record {
       answer = ap (λ (a : Answer). counted a 0) k.answer;
-      names-fault = tt;
+      names_fault = tt;
       after =
           λ i. record {
             day_open = true;
@@ -35,6 +35,6 @@ returns g c =
             book = s.book;
             tape = t i;
           };
-      refused-changes-nothing = λ e. absurd (true≢false e);
+      refused_changes_nothing = λ e. absurd (true≢false e);
       room = refl;
     }
