@@ -16,9 +16,9 @@ returns-in-Order g c =
     let e = c.enter.ensures in
     record {
       did =
-          did_call g.L.PairLedger.shares (view g.L.Ledger.book g.T.Tape.contents f) (view g.L.Ledger.book g.T.Tape.contents c.enter.new.self) (g.L.Ledger.room f.ledger) (g.L.Ledger.room c.enter.new.self.ledger) (enters c.entry-of.result) (task l (says c.args.line)) c.enter.result c.reply-answer.result
-          (ap (λ x. task l (says x)) c.in-Order.is ∙ ap (λ (x : Entry). asks (call (enters x))) (sym c.entry-of.ensures))
-          e.answer e.after e.room c.reply-answer.ensures;
+          did_call g.L.PairLedger.shares (view g.L.Ledger.book g.T.Tape.contents f) (view g.L.Ledger.book g.T.Tape.contents c.enter.new.self) (g.L.Ledger.room f.ledger) (g.L.Ledger.room c.enter.new.self.ledger) (enters c.entry_of.result) (task l (says c.args.line)) c.enter.result c.reply_answer.result
+          (ap (λ x. task l (says x)) c.in-Order.is ∙ ap (λ (x : Entry). asks (call (enters x))) (sym c.entry_of.ensures))
+          e.answer e.after e.room c.reply_answer.ensures;
       gathers = sym (ap (λ x. gathers l (says x)) c.in-Order.is);
     }
 
@@ -29,8 +29,8 @@ returns-in-Cancel g c =
     let e = c.cancel.ensures in
     record {
       did =
-          did_call g.L.PairLedger.shares (view g.L.Ledger.book g.T.Tape.contents f) (view g.L.Ledger.book g.T.Tape.contents c.cancel.new.self) (g.L.Ledger.room f.ledger) (g.L.Ledger.room c.cancel.new.self.ledger) (cancels c.cancel-of.result) (task l (says c.args.line)) c.cancel.result c.reply-answer-in-Cancel.result
-          (ap (λ x. task l (says x)) c.in-Cancel.is ∙ ap (λ (x : CancelOrder). asks (call (cancels x))) (sym c.cancel-of.ensures))
-          e.answer e.after e.room c.reply-answer-in-Cancel.ensures;
+          did_call g.L.PairLedger.shares (view g.L.Ledger.book g.T.Tape.contents f) (view g.L.Ledger.book g.T.Tape.contents c.cancel.new.self) (g.L.Ledger.room f.ledger) (g.L.Ledger.room c.cancel.new.self.ledger) (cancels c.cancel_of.result) (task l (says c.args.line)) c.cancel.result c.reply_answer-in-Cancel.result
+          (ap (λ x. task l (says x)) c.in-Cancel.is ∙ ap (λ (x : CancelOrder). asks (call (cancels x))) (sym c.cancel_of.ensures))
+          e.answer e.after e.room c.reply_answer-in-Cancel.ensures;
       gathers = sym (ap (λ x. gathers l (says x)) c.in-Cancel.is);
     }

@@ -15,12 +15,12 @@ loop-numbered-preserved g c =
     let all : List Told = told (left c.args.reader) in
     let bs = vec_items c.loop-numbered.answers in
     let l = vec_items c.loop-numbered.gathered.entries in
-    turned share start d (desk g.L.Ledger.book g.L.Ledger.room g.T.Tape.contents c.answer-line.new.floor) all bs (vec_items c.push.new.self) l (vec_items c.answer-line.new.gathered.entries) (says c.in-Some.numbered.line) (told (left c.next-line.new.self)) c.answer-line.result
+    turned share start d (desk g.L.Ledger.book g.L.Ledger.room g.T.Tape.contents c.answer_line.new.floor) all bs (vec_items c.push.new.self) l (vec_items c.answer_line.new.gathered.entries) (says c.in-Some.numbered.line) (told (left c.next_line.new.self)) c.answer_line.result
     (subst (Behind share start all bs d l) (ap told c.in-Some.ensures.step) c.loop-numbered.invariant)
-    c.answer-line.ensures.did c.answer-line.ensures.gathers c.in-ok-push.ensures.items
+    c.answer_line.ensures.did c.answer_line.ensures.gathers c.in_ok-push.ensures.items
 
 pub returns : goal.returns
 returns g c =
     at_end g.L.PairLedger.shares (desk g.L.Ledger.book g.L.Ledger.room g.T.Tape.contents c.args.floor.now) (desk g.L.Ledger.book g.L.Ledger.room g.T.Tape.contents c.loop-numbered.floor) (told (left c.args.reader)) (told (left c.loop-numbered.reader)) (vec_items c.loop-numbered.answers) (vec_items c.loop-numbered.gathered.entries)
-    (ap told c.in-default.ensures.step)
+    (ap told c.in_default.ensures.step)
     c.loop-numbered.invariant

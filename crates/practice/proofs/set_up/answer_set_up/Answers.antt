@@ -12,12 +12,12 @@ pub returns-in-OpenPair : goal.returns-in-OpenPair
 returns-in-OpenPair g c =
     let l = c.args.gathered.now.entries.items in
     let f = c.args.floor.now in
-    let e = c.open-pair.ensures in
+    let e = c.open_pair.ensures in
     record {
       did =
-          did_pair g.L.PairLedger.shares (view g.L.Ledger.book g.T.Tape.contents f) (view g.L.Ledger.book g.T.Tape.contents c.open-pair.new.self) (g.L.Ledger.room f.ledger) (g.L.Ledger.room c.open-pair.new.self.ledger) c.in-OpenPair.account c.in-OpenPair.item (set_up_task l c.args.act) c.open-pair.result c.pair-answer.result
+          did_pair g.L.PairLedger.shares (view g.L.Ledger.book g.T.Tape.contents f) (view g.L.Ledger.book g.T.Tape.contents c.open_pair.new.self) (g.L.Ledger.room f.ledger) (g.L.Ledger.room c.open_pair.new.self.ledger) c.in-OpenPair.account c.in-OpenPair.item (set_up_task l c.args.act) c.open_pair.result c.pair_answer.result
           (ap (set_up_task l) c.in-OpenPair.is)
-          e.answer e.after e.room c.pair-answer.ensures;
+          e.answer e.after e.room c.pair_answer.ensures;
       gathers = sym (ap (set_up_gathers l) c.in-OpenPair.is);
     }
 
@@ -28,9 +28,9 @@ returns-in-OpenDay g c =
     let e = c.open-reply.ensures in
     record {
       did =
-          did_call g.L.PairLedger.shares (view g.L.Ledger.book g.T.Tape.contents f) (view g.L.Ledger.book g.T.Tape.contents c.open-reply.new.self) (g.L.Ledger.room f.ledger) (g.L.Ledger.room c.open-reply.new.self.ledger) (opens c.in-OpenDay.date c.as-slice.result.now) (set_up_task l c.args.act) c.open-reply.result c.reply-answer.result
-          (ap (set_up_task l) c.in-OpenDay.is ∙ ap (λ (x : List ListEntry). asks (call (opens c.in-OpenDay.date x))) (sym c.as-slice.ensures.value))
-          (e.answer, e.names_fault) e.after e.room c.reply-answer.ensures;
+          did_call g.L.PairLedger.shares (view g.L.Ledger.book g.T.Tape.contents f) (view g.L.Ledger.book g.T.Tape.contents c.open-reply.new.self) (g.L.Ledger.room f.ledger) (g.L.Ledger.room c.open-reply.new.self.ledger) (opens c.in-OpenDay.date c.as_slice.result.now) (set_up_task l c.args.act) c.open-reply.result c.reply_answer.result
+          (ap (set_up_task l) c.in-OpenDay.is ∙ ap (λ (x : List ListEntry). asks (call (opens c.in-OpenDay.date x))) (sym c.as_slice.ensures.value))
+          (e.answer, e.names_fault) e.after e.room c.reply_answer.ensures;
       gathers = c.clear.ensures.items ∙ sym (ap (set_up_gathers l) c.in-OpenDay.is);
     }
 
@@ -41,9 +41,9 @@ returns-in-CloseDay g c =
     let e = c.close.ensures in
     record {
       did =
-          did_call g.L.PairLedger.shares (view g.L.Ledger.book g.T.Tape.contents f) (view g.L.Ledger.book g.T.Tape.contents c.close.new.self) (g.L.Ledger.room f.ledger) (g.L.Ledger.room c.close.new.self.ledger) (closes) (set_up_task l c.args.act) c.close.result c.reply-answer-in-CloseDay.result
+          did_call g.L.PairLedger.shares (view g.L.Ledger.book g.T.Tape.contents f) (view g.L.Ledger.book g.T.Tape.contents c.close.new.self) (g.L.Ledger.room f.ledger) (g.L.Ledger.room c.close.new.self.ledger) (closes) (set_up_task l c.args.act) c.close.result c.reply_answer-in-CloseDay.result
           (ap (set_up_task l) c.in-CloseDay.is)
-          e.answer e.after e.room c.reply-answer-in-CloseDay.ensures;
+          e.answer e.after e.room c.reply_answer-in-CloseDay.ensures;
       gathers = sym (ap (set_up_gathers l) c.in-CloseDay.is);
     }
 
@@ -51,12 +51,12 @@ pub returns-in-PayIn : goal.returns-in-PayIn
 returns-in-PayIn g c =
     let l = c.args.gathered.now.entries.items in
     let f = c.args.floor.now in
-    let e = c.pay-in.ensures in
+    let e = c.pay_in.ensures in
     record {
       did =
-          did_call g.L.PairLedger.shares (view g.L.Ledger.book g.T.Tape.contents f) (view g.L.Ledger.book g.T.Tape.contents c.pay-in.new.self) (g.L.Ledger.room f.ledger) (g.L.Ledger.room c.pay-in.new.self.ledger) (pays_in c.payment-of.result) (set_up_task l c.args.act) c.pay-in.result c.reply-answer-in-PayIn.result
-          (ap (set_up_task l) c.in-PayIn.is ∙ ap (λ (x : Payment). asks (call (pays_in x))) (sym c.payment-of.ensures))
-          e.answer e.after e.room c.reply-answer-in-PayIn.ensures;
+          did_call g.L.PairLedger.shares (view g.L.Ledger.book g.T.Tape.contents f) (view g.L.Ledger.book g.T.Tape.contents c.pay_in.new.self) (g.L.Ledger.room f.ledger) (g.L.Ledger.room c.pay_in.new.self.ledger) (pays_in c.payment_of.result) (set_up_task l c.args.act) c.pay_in.result c.reply_answer-in-PayIn.result
+          (ap (set_up_task l) c.in-PayIn.is ∙ ap (λ (x : Payment). asks (call (pays_in x))) (sym c.payment_of.ensures))
+          e.answer e.after e.room c.reply_answer-in-PayIn.ensures;
       gathers = sym (ap (set_up_gathers l) c.in-PayIn.is);
     }
 
@@ -64,11 +64,11 @@ pub returns-in-DrawOut : goal.returns-in-DrawOut
 returns-in-DrawOut g c =
     let l = c.args.gathered.now.entries.items in
     let f = c.args.floor.now in
-    let e = c.draw-out.ensures in
+    let e = c.draw_out.ensures in
     record {
       did =
-          did_call g.L.PairLedger.shares (view g.L.Ledger.book g.T.Tape.contents f) (view g.L.Ledger.book g.T.Tape.contents c.draw-out.new.self) (g.L.Ledger.room f.ledger) (g.L.Ledger.room c.draw-out.new.self.ledger) (draws_out c.payment-of-in-DrawOut.result) (set_up_task l c.args.act) c.draw-out.result c.reply-answer-in-DrawOut.result
-          (ap (set_up_task l) c.in-DrawOut.is ∙ ap (λ (x : Payment). asks (call (draws_out x))) (sym c.payment-of-in-DrawOut.ensures))
-          e.answer e.after e.room c.reply-answer-in-DrawOut.ensures;
+          did_call g.L.PairLedger.shares (view g.L.Ledger.book g.T.Tape.contents f) (view g.L.Ledger.book g.T.Tape.contents c.draw_out.new.self) (g.L.Ledger.room f.ledger) (g.L.Ledger.room c.draw_out.new.self.ledger) (draws_out c.payment_of-in-DrawOut.result) (set_up_task l c.args.act) c.draw_out.result c.reply_answer-in-DrawOut.result
+          (ap (set_up_task l) c.in-DrawOut.is ∙ ap (λ (x : Payment). asks (call (draws_out x))) (sym c.payment_of-in-DrawOut.ensures))
+          e.answer e.after e.room c.reply_answer-in-DrawOut.ensures;
       gathers = sym (ap (set_up_gathers l) c.in-DrawOut.is);
     }
