@@ -2,7 +2,8 @@
 use Rattle.std.proofs.Common.{◌≡◌, ℕ, min, List, [], IfOk, Ok, Err, string_bytes, Result, Vec, String, ap, ◌∙◌, subst}
 use Rattle.std.specs.declared.alloc.Global.{Global}
 use Rattle.ledger.specs.Books.{Book, Room}
-use Rattle.line_ledger.specs.Opening.{no_pairs, room_of, all_share}
+use Rattle.line_ledger.specs.Opening.{no_pairs, room_of}
+use Rattle.line_ledger.specs.Sharing.{all_share}
 use Rattle.tape.specs.Tapes.{Contents}
 use Rattle.rules.specs.Steps.{Desk}
 use Rattle.sheet.specs.declared.fault.Fault.{Fault}

@@ -4,7 +4,8 @@
 use Rattle.std.specs.Prelude.{◌≡◌, ℕ, min, List, [], Result, Vec}
 use Rattle.std.specs.declared.alloc.Global.{Global}
 use Rattle.rules.specs.Steps.{Desk}
-use Rattle.line_ledger.specs.Opening.{no_pairs, room_of, all_share}
+use Rattle.line_ledger.specs.Opening.{no_pairs, room_of}
+use Rattle.line_ledger.specs.Sharing.{all_share}
 use Rattle.sheet.specs.declared.fault.Fault.{Fault}
 use Rattle.sheet.specs.Handing.{opening}
 use Rattle.answers.specs.declared.answer.Answer.{Answer}

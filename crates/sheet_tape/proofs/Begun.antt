@@ -26,6 +26,6 @@ begins w z m n x y p q pairs b lines t ew ez em en ex ey ep eq et eb =
     ∙ ap (λ (v : ℕ). both_room (λ i. room_of pairs 0) (each v)) (ey ∙ ap (λ (v : ℕ). room_of v 0) eq))
     ∙ ap (λ (v : Contents). new_desk (both no_pairs no_pairs) (both_room (λ i. room_of pairs 0) (λ i. room_of pairs 0)) v) (et ∙ ap blank eb)
 
-pub tapes : {E : Type 0} (r : Result (Vec ℕ Global) E) (d b e : Desk) (t bs : List ℕ) (as' : Result (Vec Answer Global) Fault) → d ≡ b → Practised share d (opening t) as' e → bs ≡ tape_bytes e.state.tape.date e.state.tape.lines → IfOk r (λ v. (vec_items v ≡ bs) × (vec_len v ≡ length bs)) → IfOk r (λ v. Taped b t (vec_items v))
-tapes (Ok v) d b e t bs as' h p w m = record { answers = as'; end = e; practised = subst (λ (x : Desk). Practised share x (opening t) as' e) h p; bytes = m.0 ∙ w }
+pub tapes : {E : Type 0} (r : Result (Vec ℕ Global) E) (d b e : Desk) (t bs : List ℕ) (as' : Result (Vec Answer Global) Fault) → d ≡ b → Practised share d (opening t) as' e → bs ≡ tape_bytes e.state.tape.date e.state.tape.lines → IfOk r (λ v. vec_items v ≡ bs) → IfOk r (λ v. Taped b t (vec_items v))
+tapes (Ok v) d b e t bs as' h p w m = record { answers = as'; end = e; practised = subst (λ (x : Desk). Practised share x (opening t) as' e) h p; bytes = m ∙ w }
 tapes (Err x) d b e t bs as' h p w m = tt

@@ -6,7 +6,8 @@
 use Rattle.std.specs.Prelude.{◌≡◌, ℕ, ◌+◌, ◌*◌, true, List, [], Result, Vec}
 use Rattle.std.specs.declared.alloc.Global.{Global}
 use Rattle.ledger.specs.Opening.{Sharing}
-use Rattle.line_ledger.specs.Opening.{no_pairs, room_of, all_share}
+use Rattle.line_ledger.specs.Opening.{no_pairs, room_of}
+use Rattle.line_ledger.specs.Sharing.{all_share}
 use Rattle.two_house.specs.Houses.{both, both_room, both_share}
 use Rattle.layout.specs.Bytes.{tape_bytes}
 use Rattle.byte_tape.specs.Stored.{capacity_of}

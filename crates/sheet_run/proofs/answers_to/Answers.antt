@@ -11,7 +11,7 @@ pub returns : goal.returns
 returns c =
     let l = c.new-ledger.result in
     let t = c.new-tape.result in
-    prints c.text-of.result (new_desk (line_book l) (λ i. line_room l) (recorded t)) (begun c.args.pairs c.args.lines) _ c.args.sheet.now c.in-ok-practice.practice.answers
-    (begins (line_book l) (line_room l) (vec_len c.in-ok-vec.field-0) c.args.pairs (vec_len c.in-ok-vec-2.field-0) c.args.lines (recorded t) c.new-ledger.ensures.book c.new-ledger.ensures.room c.in-ok-vec.ensures.made.1 c.new-tape.ensures c.in-ok-vec-2.ensures.made.1)
-    c.in-ok-practice.ensures
-    c.text-of.ensures
+    prints c.text_of.result (new_desk (line_book l) (λ i. line_room l) (recorded t)) (begun c.args.pairs c.args.lines) _ c.args.sheet.now c.in_ok-practice.practice.answers
+    (begins (line_book l) (line_room l) (vec_len c.in_ok-vec.field-0) c.args.pairs (vec_len c.in_ok-vec-2.field-0) c.args.lines (recorded t) c.new-ledger.ensures.book c.new-ledger.ensures.room c.in_ok-vec.ensures.len c.new-tape.ensures c.in_ok-vec-2.ensures.len)
+    c.in_ok-practice.ensures
+    c.text_of.ensures

@@ -16,10 +16,10 @@ returns c =
     let t = c.new-tape.result in
     let w : Book = both (line_book h.bank) (line_book h.depository) in
     let z : Room = both_room (λ i. line_room h.bank) (λ i. line_room h.depository) in
-    tapes c.from-slice.result (new_desk w z (stored t)) (begun c.args.pairs c.args.lines) _ c.args.sheet.now c.bytes.result.now c.in-ok-practice.practice.answers
-    (begins w z (line_book c.new-bank.result) (line_book c.new-depository.result) (line_room c.new-bank.result) (line_room c.new-depository.result) (vec_len c.in-ok-vec.field-0) (vec_len c.in-ok-vec-2.field-0) c.args.pairs (vec_len c.in-Ok.blank.bytes) c.args.lines (stored t)
+    tapes c.from_slice.result (new_desk w z (stored t)) (begun c.args.pairs c.args.lines) _ c.args.sheet.now c.bytes.result.now c.in_ok-practice.practice.answers
+    (begins w z (line_book c.new-bank.result) (line_book c.new-depository.result) (line_room c.new-bank.result) (line_room c.new-depository.result) (vec_len c.in_ok-vec.field-0) (vec_len c.in_ok-vec-2.field-0) c.args.pairs (vec_len c.in-Ok.blank.bytes) c.args.lines (stored t)
     c.new.ensures.book c.new.ensures.room c.new-bank.ensures.book c.new-depository.ensures.book c.new-bank.ensures.room c.new-depository.ensures.room
-    c.in-ok-vec.ensures.made.1 c.in-ok-vec-2.ensures.made.1 c.new-tape.ensures.contents (ap vec_len c.in-Ok.ensures.bytes ∙ c.in-ok-buffer.ensures.len))
-    c.in-ok-practice.ensures
+    c.in_ok-vec.ensures.len c.in_ok-vec-2.ensures.len c.new-tape.ensures.contents (ap vec_len c.in-Ok.ensures.bytes ∙ c.in_ok-buffer.ensures.len))
+    c.in_ok-practice.ensures
     (c.bytes.ensures ∙ ap (λ (v : ByteTape). tape_bytes (stored v).date (stored v).lines) c.tape.ensures)
-    c.from-slice.ensures.made
+    c.from_slice.ensures.items
