@@ -137,9 +137,6 @@ fn two_houses(rt: HostRuntime) -> Result<(), Fail> {
     done(&rt, depository.open_pair(1, 7));
     done(&rt, depository.open_pair(1, 0));
     let mut house = TwoHouse::new(bank, depository);
-    // Both houses are full, and the depository's own money does not count.
-    refused(&rt, house.open_pair(3, 0), 36);
-    refused(&rt, house.open_pair(1, 7), 35);
     done(&rt, house.pay_in(1, 0, 100));
     done(&rt, house.pay_in(1, 7, 50));
     done(&rt, settle(&mut house, 1, 2, 0, 30));
@@ -149,5 +146,19 @@ fn two_houses(rt: HostRuntime) -> Result<(), Fail> {
     refused(&rt, settle(&mut house, 1, 2, 7, 20), 31);
     has(&rt, &house, 1, 7, 30, 20);
     assert!(rt; house.any_security_held() && !house.any_money_held());
+    Ok(())
+}
+
+#[test]
+fn pairs_of_two_houses(rt: HostRuntime) -> Result<(), Fail> {
+    let mut bank = empty(rt.alloc(), 1)?;
+    done(&rt, bank.open_pair(1, 0));
+    let mut depository = empty(rt.alloc(), 2)?;
+    done(&rt, depository.open_pair(1, 7));
+    done(&rt, depository.open_pair(1, 0));
+    let mut house = TwoHouse::new(bank, depository);
+    // Both houses are full, and the depository's own money does not count.
+    refused(&rt, house.open_pair(3, 0), 36);
+    refused(&rt, house.open_pair(1, 7), 35);
     Ok(())
 }
