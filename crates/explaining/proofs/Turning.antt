@@ -1,9 +1,9 @@
 -- One row more of a text.
-use Rattle.std.proofs.Common.{◌≡◌, ℕ, ◌+◌, ◌-◌, ◌<◌, ◌≤◌, Bool, true, false, cond, eqb, List, [], ◌∷◌, ◌++◌, length, drop, is_ok, IfOk, Some, None, Ok, Err, Option, Result, sym, refl, ap, ◌∙◌, append_assoc, arith, length-drop}
+use Rattle.std.proofs.Common.{◌≡◌, ℕ, ◌<◌, ◌≤◌, cond, eqb, List, [], ◌∷◌, ◌++◌, length, drop, is_ok, IfOk, Some, None, Ok, Err, Option, Result, sym, ap, ◌∙◌, append_assoc, arith, length-drop}
 use Rattle.std.specs.List.{flat_map}
 use Rattle.std.proofs.lemmas.Bool.{cond_both}
 use Rattle.sheet_text.specs.Cuts.{before, onward}
-use Rattle.sheet_text.specs.Lines.{lines, first_line}
+use Rattle.sheet_text.specs.Lines.{first_line}
 use Rattle.sheet_text.proofs.Joining.{lines_step}
 use Rattle.explaining.specs.Notes.{explained_row, explained}
 

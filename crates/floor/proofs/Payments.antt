@@ -1,9 +1,8 @@
 -- Payments: the checks, and then what the ledger says.
-use Rattle.std.proofs.Common.{◌≡◌, ℕ, Ok, Err, sym, refl, ap, ◌∙◌}
+use Rattle.std.proofs.Common.{◌≡◌, ℕ, Ok, Err, ap, ◌∙◌}
 use Rattle.ledger.specs.Moves.{Answer as Moved}
 use Rattle.market.specs.declared.refusal.Refusal.{Refusal}
 use Rattle.tape.specs.declared.line.PaymentLine.{PaymentLine}
-use Rattle.rules.specs.declared.event.Refused.{Refused}
 use Rattle.rules.specs.declared.event.Refused.TheVariants.{Ledger}
 use Rattle.rules.specs.declared.event.Event.{Event}
 use Rattle.rules.specs.declared.request.Payment.{Payment}

@@ -1,5 +1,5 @@
 -- Checks in parts, and what the exits of a call come to.
-use Rattle.std.proofs.Common.{◌≡◌, ℕ, ◌+◌, ◌-◌, ◌<◌, ◌≤◌, Bool, true, false, cond, not, leb, List, [], ◌∷◌, ◌++◌, length, is_ok, IsErrAnd, IfOk, Some, None, Ok, Err, Option, Result, sym, refl, ap, ◌∙◌, subst, arith}
+use Rattle.std.proofs.Common.{◌≡◌, ℕ, ◌+◌, Bool, true, false, cond, not, leb, List, is_ok, IsErrAnd, IfOk, Some, None, Ok, Err, Option, Result, sym, refl, ap, ◌∙◌, arith}
 use Rattle.std.proofs.lemmas.Bool.{false≢true}
 use Rattle.market.specs.declared.kinds.Sort.{Sort}
 use Rattle.market.specs.declared.kinds.Sort.TheVariants.{Intention as intentions, FirmQuote as firm_quotes, DealOrder}
@@ -10,7 +10,6 @@ use Rattle.market.specs.declared.refusal.Refusal.TheVariants.{DayNotOpen, OutOfR
 use Rattle.lookups.specs.Wanted.{day_of}
 use Rattle.requests.specs.declared.cancelling.Cancelling.{Cancelling}
 use Rattle.requests.specs.Narrow.{cancelling}
-use Rattle.requests.specs.Terms.{terms_answer}
 use Rattle.rules.specs.declared.event.Refused.{Refused}
 use Rattle.rules.specs.declared.order.Order.{Order}
 use Rattle.rules.specs.declared.order.Standing.{Standing}

@@ -1,13 +1,12 @@
 -- What an accepted call has passed.
-use Rattle.std.proofs.Common.{◌≡◌, ℕ, zero, suc, ◌+◌, ◌<◌, ◌≤◌, Bool, true, false, cond, not, ◌&&◌, ◌||◌, eqb, ltb, leb, List, [], ◌∷◌, ◌++◌, map, length, get_or, set, is_some, Some, None, Ok, Err, Option, Result, sym, refl, ap, ◌∙◌, subst, append_assoc, arith}
+use Rattle.std.proofs.Common.{◌≡◌, ℕ, zero, suc, ◌+◌, ◌<◌, ◌≤◌, Bool, true, false, cond, not, leb, List, [], ◌∷◌, ◌++◌, map, length, set, is_some, Some, None, Ok, Err, Option, sym, refl, ap, ◌∙◌, subst, append_assoc, arith}
 use Rattle.std.specs.Option.{option_map}
 use Rattle.std.proofs.lemmas.List.{length_push, length-append, get_or_at, set_at}
 use Rattle.std.proofs.lemmas.Bool.{cond_both, and_parts, and_from, or_parts, not-true, eq-eqb, leb-true, ltb-true, ltb-false, both_ways}
-use Rattle.ledger.specs.Books.{Book}
 use Rattle.ledger.specs.Moves.{Answer as Moved, pay_in_answer, draw_out_answer}
 use Rattle.market.specs.declared.kinds.CancelReason.TheVariants.{Close}
 use Rattle.market.specs.declared.refusal.Refusal.{Refusal}
-use Rattle.market.specs.declared.refusal.Refusal.TheVariants.{DayNotOpen, OutOfRange, NotListed, OutsideHours, BadPrice, AmountTooLarge, BelowLeastSize, SerialUsed, NumberTaken, TooFewPlaces, TooFewLines, PairNotOpen, FreeTooSmall, NotLive, NoSuchOrder, BadPayment}
+use Rattle.market.specs.declared.refusal.Refusal.TheVariants.{DayNotOpen, OutOfRange, OutsideHours, BadPrice, AmountTooLarge, BelowLeastSize, SerialUsed, NumberTaken, TooFewPlaces, TooFewLines, PairNotOpen, FreeTooSmall, NotLive, BadPayment}
 use Rattle.market.specs.declared.ranges.Figure.TheVariants.{Unit, Serial, Account, SecurityCode, Quantity}
 use Rattle.market.specs.Ranges.{admits}
 use Rattle.rules.specs.declared.event.Event.{Event}
@@ -24,11 +23,11 @@ use Rattle.rules.specs.Listing.{find_listed, quoted}
 use Rattle.market.specs.Classes.{trades_at, reaches}
 use Rattle.market.specs.Figures.{times, within_limit}
 use Rattle.rules.specs.Checks.{entry_in_range, cancel_in_range, payment_in_range, payment_allowed, of_unit, has_name, serial_used, number_free, answers_to, order_for}
-use Rattle.rules.specs.Dealing.{close_from, close_events, close_time, cancel_events, entry_events}
-use Rattle.rules.specs.Calls.{Answer, unless, unless_at, holding_answer, listed_answer, enter_answer, found_answer, target_of, cancel_answer, by_ledger, paying_answer}
+use Rattle.rules.specs.Dealing.{close_from, close_time, cancel_events, entry_events}
+use Rattle.rules.specs.Calls.{Answer, unless, unless_at, listed_answer, enter_answer, found_answer, target_of, by_ledger, paying_answer}
 use Rattle.rules.specs.State.{State, free_places, free_lines}
-use Rattle.laws.specs.Days.{Day, step, run, ValidAll, Fresh, CanEnter, CanCancel}
-use Rattle.laws.specs.Accepted.{day, EntriesValid, CancelsValid, PaymentsInValid, PaymentsOutValid, nothing_live, Closed, ClosesValid}
+use Rattle.laws.specs.Days.{Day, step, run, ValidAll, Fresh}
+use Rattle.laws.specs.Accepted.{day, EntriesValid, CancelsValid, PaymentsInValid, PaymentsOutValid, nothing_live, ClosesValid}
 use Rattle.laws.specs.Ending.{EntriesStrict}
 use Rattle.laws.proofs.Entering.{Found, found, entry_strict, valid_all}
 

@@ -1,31 +1,28 @@
 -- Under one number two units deal at most once in a day.
-use Rattle.std.proofs.Common.{◌≡◌, ℕ, ◌+◌, ◌-◌, ◌<◌, ◌≤◌, Bool, true, false, cond, not, ◌&&◌, ◌||◌, eqb, ltb, ◌⊎◌, List, [], ◌∷◌, ◌++◌, map, length, Some, None, Ok, Option, sym, refl, ap, ◌∙◌, subst, inl, inr, ⊎_elim, append_assoc, append-nil, arith}
-use Rattle.std.specs.List.{flat_map}
+use Rattle.std.proofs.Common.{◌≡◌, ℕ, ◌+◌, ◌-◌, ◌<◌, Bool, true, false, cond, not, ◌&&◌, ◌||◌, eqb, ltb, ◌⊎◌, List, [], ◌∷◌, ◌++◌, length, Some, None, Option, sym, refl, ap, ◌∙◌, subst, inl, inr, ⊎_elim, append_assoc, append-nil, arith}
 use Rattle.std.proofs.lemmas.List.{map_push, get_or_append_left, get_or_push}
-use Rattle.std.proofs.lemmas.Bool.{and_parts, and_from, or_cases, or_parts, or_from, or_left, or_right, not-true, not_from_false, eqb-true, eq-eqb, ne_eqb, cases_Bool, both_ways, cond-true, cond-false, cond_both, false≢true}
+use Rattle.std.proofs.lemmas.Bool.{and_parts, and_from, or_cases, or_parts, or_from, or_left, or_right, not-true, not_from_false, eqb-true, eq-eqb, ne_eqb, cases_Bool, both_ways, cond-true, cond-false, cond_both}
 use Rattle.market.specs.declared.kinds.Side.{Side}
 use Rattle.market.specs.declared.kinds.Side.TheVariants.{Buy, Sell}
 use Rattle.market.specs.declared.kinds.OrderKind.{OrderKind}
 use Rattle.market.specs.declared.kinds.OrderKind.TheVariants.{Intention, FirmQuote, Negotiated, Click}
-use Rattle.market.specs.declared.kinds.CancelReason.TheVariants.{QuoteRest, ClickRest, NoQuote, Mismatch}
+use Rattle.market.specs.declared.kinds.CancelReason.TheVariants.{Mismatch}
 use Rattle.market.specs.declared.quantity.Quantity.{Quantity}
 use Rattle.market.specs.Kinds.{kind_number}
 use Rattle.tape.specs.declared.line.Line.{Line}
 use Rattle.tape.specs.declared.line.Line.TheVariants.{Deal}
 use Rattle.tape.specs.declared.line.OrderLine.{OrderLine}
 use Rattle.rules.specs.declared.event.Event.{Event}
-use Rattle.rules.specs.declared.event.Event.TheVariants.{Entered, Dealt, Cancelled, PaidIn, DrawnOut}
+use Rattle.rules.specs.declared.event.Event.TheVariants.{Entered, Dealt, Cancelled}
 use Rattle.rules.specs.declared.event.Follow.{Follow}
 use Rattle.rules.specs.declared.event.Follow.TheVariants.{Wait, Deal as deal_follows, CancelBoth, DealAndCancel, CancelOne}
 use Rattle.rules.specs.declared.order.Agreement.{Agreement}
 use Rattle.rules.specs.declared.order.Order.{Order}
 use Rattle.rules.specs.declared.order.Standing.{Standing}
-use Rattle.rules.specs.declared.request.Entry.{Entry as an_entry}
 use Rattle.rules.specs.declared.security.Security.{Security}
-use Rattle.rules.specs.State.{State}
 use Rattle.rules.specs.Orders.{order_at, no_one, is_live, first_place}
 use Rattle.rules.specs.Listing.{find_listed}
-use Rattle.rules.specs.Checks.{is_kind, waits, between_units, has_dealt, number_free_for, number_for, order_for}
+use Rattle.rules.specs.Checks.{is_kind, between_units, has_dealt, number_free_for, order_for}
 use Rattle.rules.specs.Dealing.{waits_for, quoted_for, fits, stands_on, deal, meet, click_short, quote_short, hit, click, decide, decide_as, follow_events}
 use Rattle.rules.specs.Effects.{order_line, lines_of, agreement, agreed_after}
 use Rattle.laws.specs.Days.{Day, step, run, Valid, ValidAll}

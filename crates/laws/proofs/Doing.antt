@@ -1,10 +1,10 @@
 -- Moves that the ledger grants.
-use Rattle.std.proofs.Common.{◌≡◌, ℕ, ◌+◌, ◌≤◌, true, Ok, sym, refl, ap, ◌∙◌, subst, arith}
-use Rattle.std.proofs.lemmas.Bool.{cond-true, cond-false, le-ltb}
+use Rattle.std.proofs.Common.{◌≡◌, ℕ, ◌≤◌, true, Ok, ◌∙◌, subst}
+use Rattle.std.proofs.lemmas.Bool.{cond-true}
 use Rattle.market.specs.declared.refusal.Refusal.TheVariants.{FreeTooSmall, MoreThanHeld}
 use Rattle.ledger.specs.Books.{Book, Lawful}
 use Rattle.ledger.specs.Moves.{Answer, hold_answer, hold_after, release_answer, release_after, pass_answer, pass_after, pay_in_answer, pay_in_after, draw_out_answer, draw_out_after}
-use Rattle.ledger.specs.Laws.{Held, Released, Passed, PaidIn, DrawnOut}
+use Rattle.ledger.specs.Laws.{Held, Released, PaidIn, DrawnOut}
 use Rattle.ledger.proofs.OnePair.{enough}
 use Rattle.ledger.proofs.Keeping.{hold_law, release_law, pay_in_law, draw_out_law}
 use Rattle.ledger.proofs.Passing.{PassedWell, pass_well}

@@ -1,5 +1,5 @@
 -- The events that follow from an accepted entry are valid, one after the other.
-use Rattle.std.proofs.Common.{◌≡◌, ℕ, suc, ◌+◌, ◌-◌, ◌<◌, ◌≤◌, Bool, true, false, cond, ◌&&◌, eqb, ltb, ◌≢◌, ◌⊎◌, List, [], ◌∷◌, ◌++◌, length, get_or, set, IfSome, Some, None, Option, sym, refl, ap, ◌∙◌, subst, inl, inr, ⊎_elim, arith}
+use Rattle.std.proofs.Common.{◌≡◌, ℕ, suc, ◌+◌, ◌-◌, ◌<◌, ◌≤◌, Bool, true, cond, ◌&&◌, eqb, ltb, ◌≢◌, ◌⊎◌, List, [], ◌∷◌, length, set, IfSome, Some, None, Option, sym, refl, ap, ◌∙◌, subst, inl, inr, ⊎_elim, arith}
 use Rattle.std.specs.Option.{option_map}
 use Rattle.std.proofs.lemmas.List.{length-set, length_push, get_or-set_same, get_or-set_other, get_or_append_left, get_or_push}
 use Rattle.std.proofs.lemmas.Bool.{cond_both, and_parts, eqb-true, ltb-true, ltb-false, eqb-false}
@@ -10,20 +10,19 @@ use Rattle.market.specs.declared.kinds.OrderKind.TheVariants.{Intention, FirmQuo
 use Rattle.market.specs.declared.kinds.CancelReason.{CancelReason}
 use Rattle.market.specs.declared.kinds.CancelReason.TheVariants.{QuoteRest, ClickRest, NoQuote, Mismatch}
 use Rattle.market.specs.declared.price.Price.{Price}
-use Rattle.market.specs.declared.quantity.Quantity.{Quantity}
 use Rattle.market.specs.Figures.{quantity, price}
 use Rattle.rules.specs.declared.event.Event.{Event}
 use Rattle.rules.specs.declared.event.Event.TheVariants.{Entered, Dealt, Cancelled}
 use Rattle.rules.specs.declared.event.Follow.{Follow}
-use Rattle.rules.specs.declared.event.Follow.TheVariants.{Wait, Deal, CancelBoth, DealAndCancel, CancelOne}
+use Rattle.rules.specs.declared.event.Follow.TheVariants.{CancelBoth, CancelOne}
 use Rattle.rules.specs.declared.order.Order.{Order}
 use Rattle.rules.specs.declared.order.Standing.{Standing}
 use Rattle.rules.specs.declared.security.Security.{Security}
 use Rattle.rules.specs.Orders.{order_at, no_one, is_live, first_place, less_live, with_live}
 use Rattle.rules.specs.Listing.{find_listed}
-use Rattle.rules.specs.Checks.{is_kind, waits}
+use Rattle.rules.specs.Checks.{is_kind}
 use Rattle.rules.specs.Dealing.{opposite, waits_for, quoted_for, fits, stands_on, deal, meet, click_short, quote_short, hit, click, decide_as, follow_events, entry_events}
-use Rattle.laws.specs.Days.{Day, step, Valid, ValidAll, CanEnter, CanDeal, CanDealAt, CanCancel}
+use Rattle.laws.specs.Days.{Day, step, Valid, ValidAll, CanEnter, CanCancel}
 use Rattle.laws.specs.Ending.{Strict, StrictAll}
 
 -- a search that found something found it there

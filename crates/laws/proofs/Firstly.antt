@@ -1,22 +1,20 @@
 -- An order's entry line comes first.
-use Rattle.std.proofs.Common.{◌≡◌, ℕ, ◌+◌, ◌<◌, ◌≤◌, Bool, true, false, cond, ◌&&◌, eqb, ◌⊎◌, List, [], ◌∷◌, ◌++◌, length, get_or, take, sum_by, count_by, sym, refl, ap, ◌∙◌, subst, ⊎_elim, append_assoc, arith}
+use Rattle.std.proofs.Common.{◌≡◌, ℕ, ◌+◌, ◌<◌, ◌≤◌, Bool, true, false, cond, List, [], ◌∷◌, ◌++◌, length, count_by, sym, refl, ap, ◌∙◌, subst, ⊎_elim, append_assoc, arith}
 use Rattle.std.proofs.lemmas.List.{length_push, get_or_append_left, get_or_push, take-append-le, take_at}
 use Rattle.std.proofs.lemmas.List.Sums.{sum_by_push, sum_by-set, sum_by-take-le, get_or-le-sum_by}
-use Rattle.std.proofs.lemmas.Bool.{cases_lt, false≢true, eq-eqb, and_from}
+use Rattle.std.proofs.lemmas.Bool.{cases_lt, false≢true}
 use Rattle.ledger.specs.Laws.{at}
 use Rattle.tape.specs.declared.line.Line.{Line}
 use Rattle.tape.specs.declared.line.Line.TheVariants.{Entry, Deal, Cancel, PaidIn, DrawnOut}
-use Rattle.market.specs.declared.quantity.Quantity.{Quantity}
 use Rattle.rules.specs.declared.event.Event.{Event}
 use Rattle.rules.specs.declared.event.Event.TheVariants.{Entered, Dealt, Cancelled, PaidIn as paid_in_event, DrawnOut as drawn_out_event}
 use Rattle.rules.specs.declared.order.Order.{Order}
 use Rattle.rules.specs.declared.order.Standing.{Standing}
 use Rattle.rules.specs.Orders.{order_at, no_one, with_live, less_live}
 use Rattle.rules.specs.Checks.{of_unit}
-use Rattle.rules.specs.Effects.{order_line, lines_of}
-use Rattle.laws.specs.Days.{Day, step, Valid}
-use Rattle.laws.specs.Sound.{Distinct}
-use Rattle.laws.specs.First.{is_entry, is_later, entries, no_line, Behind, First, EntriesFirst, ToldFirst, OrdersFirst}
+use Rattle.rules.specs.Effects.{order_line}
+use Rattle.laws.specs.Days.{Day, step}
+use Rattle.laws.specs.First.{is_entry, is_later, entries, no_line, Behind, First, EntriesFirst, OrdersFirst}
 use Rattle.laws.proofs.Naming.{sum_set_two, sum_named, apart}
 
 -- one line more

@@ -1,10 +1,9 @@
 -- What follows from an entry, case by case.
-use Rattle.std.proofs.Common.{◌≡◌, ℕ, ◌-◌, ◌<◌, ◌≤◌, Bool, true, false, cond, ◌&&◌, eqb, ltb, List, [], ◌∷◌, length, Some, None, Option, sym, refl, ap, ◌∙◌, arith}
+use Rattle.std.proofs.Common.{◌≡◌, ℕ, ◌-◌, ◌<◌, true, cond, eqb, ltb, List, [], ◌∷◌, length, Some, None, Option, refl, ap, ◌∙◌, arith}
 use Rattle.std.proofs.lemmas.Bool.{cond-true, cond-false, lt-ltb, le-ltb, eq-eqb, ne_eqb}
 use Rattle.market.specs.declared.kinds.Side.{Side}
 use Rattle.market.specs.declared.kinds.Side.TheVariants.{Buy, Sell}
 use Rattle.market.specs.declared.kinds.OrderKind.{OrderKind}
-use Rattle.market.specs.declared.kinds.OrderKind.TheVariants.{FirmQuote, Negotiated, Click}
 use Rattle.market.specs.declared.kinds.CancelReason.TheVariants.{QuoteRest, ClickRest, NoQuote, Mismatch}
 use Rattle.rules.specs.declared.event.Event.{Event}
 use Rattle.rules.specs.declared.event.Event.TheVariants.{Entered, Cancelled}
@@ -15,9 +14,8 @@ use Rattle.rules.specs.declared.order.Standing.{Standing}
 use Rattle.rules.specs.declared.security.Security.{Security}
 use Rattle.rules.specs.Orders.{order_at, first_place}
 use Rattle.rules.specs.Listing.{find_listed}
-use Rattle.rules.specs.Checks.{is_kind}
 use Rattle.rules.specs.Dealing.{waits_for, quoted_for, fits, stands_on, deal, meet, click_short, quote_short, hit, click, decide, decide_as, follow_events, entry_events}
-use Rattle.laws.specs.Dealings.{deals, NegotiatedFollows, ClickFollows, NegotiatedLaw, ClickLaw, QuotesNumbered, NumbersLaw}
+use Rattle.laws.specs.Dealings.{deals, NegotiatedLaw, ClickLaw, NumbersLaw}
 use Rattle.laws.proofs.Singly.{few_quotes, quotes_apart}
 
 -- the events of an entry whose decision is known

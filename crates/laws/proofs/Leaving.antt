@@ -1,18 +1,16 @@
 -- What `leave` keeps of a table: its orders; and none has more live.
-use Rattle.std.proofs.Common.{◌≡◌, ℕ, zero, suc, ◌+◌, ◌-◌, ◌<◌, ◌≤◌, Bool, true, false, cond, ◌&&◌, eqb, ltb, ◌⊎◌, List, [], ◌∷◌, ◌++◌, length, get_or, take, sum_by, count_by, sym, refl, ap, ◌∙◌, subst, ⊎_elim, arith}
+use Rattle.std.proofs.Common.{◌≡◌, ℕ, zero, suc, ◌-◌, ◌<◌, ◌≤◌, Bool, true, false, cond, ◌&&◌, eqb, List, [], ◌∷◌, ◌++◌, length, take, count_by, sym, refl, ap, ◌∙◌, subst, ⊎_elim, arith}
 use Rattle.std.proofs.lemmas.List.{length_push, get_or_append_left, get_or_push, take-append-le, take_at}
 use Rattle.std.proofs.lemmas.List.Sums.{sum_by-cons}
-use Rattle.std.proofs.lemmas.Bool.{and_parts, and_from, eqb-true, ltb-true, lt-ltb, cases_lt, cond_both}
+use Rattle.std.proofs.lemmas.Bool.{and_parts, and_from, ltb-true, lt-ltb, cases_lt}
 use Rattle.market.specs.declared.kinds.OrderKind.{OrderKind}
 use Rattle.market.specs.declared.kinds.OrderKind.TheVariants.{FirmQuote, Negotiated}
-use Rattle.market.specs.Figures.{quantity}
 use Rattle.market.specs.Kinds.{kind_number}
 use Rattle.rules.specs.declared.order.Order.{Order}
 use Rattle.rules.specs.declared.order.Standing.{Standing}
 use Rattle.rules.specs.Orders.{order_at, no_one, is_live}
-use Rattle.rules.specs.Checks.{is_kind, waits, quote_number}
+use Rattle.rules.specs.Checks.{is_kind, waits}
 use Rattle.rules.specs.Plain.{live_of, leave}
-use Rattle.laws.specs.Plainly.{One}
 use Rattle.laws.specs.Single.{Numbered, Single, Fewer}
 
 one_order : (b : Bool) (x y : Standing) → y.order ≡ x.order → (cond b y x).order ≡ x.order

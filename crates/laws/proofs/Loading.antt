@@ -1,15 +1,13 @@
 -- What each event does to the load of a tape.
-use Rattle.std.proofs.Common.{◌≡◌, ℕ, ◌+◌, ◌-◌, ◌<◌, ◌≤◌, Bool, true, false, cond, ltb, List, [], ◌∷◌, ◌++◌, length, set, sum_by, count_by, sym, refl, ap, ◌∙◌, arith}
+use Rattle.std.proofs.Common.{◌≡◌, ℕ, ◌+◌, ◌-◌, ◌<◌, Bool, true, false, cond, ltb, refl, ap, arith}
 use Rattle.std.proofs.lemmas.List.{length-append}
 use Rattle.std.proofs.lemmas.List.Sums.{sum_by_push, sum_by-set}
 use Rattle.std.proofs.lemmas.Bool.{lt-ltb}
 use Rattle.rules.specs.declared.event.Event.TheVariants.{Entered, Dealt, Cancelled}
-use Rattle.rules.specs.declared.order.Order.{Order}
 use Rattle.rules.specs.declared.order.Standing.{Standing}
-use Rattle.rules.specs.Orders.{order_at, no_one, is_live, live_count, with_live, less_live}
+use Rattle.rules.specs.Orders.{order_at, no_one, is_live, with_live, less_live}
 use Rattle.rules.specs.Effects.{lines_of}
-use Rattle.laws.specs.Days.{Day, step, Valid}
-use Rattle.laws.specs.Reserves.{load, ends, LoadEntered, LoadCancelled, LoadDealt}
+use Rattle.laws.specs.Reserves.{LoadEntered, LoadCancelled, LoadDealt}
 use Rattle.laws.proofs.Naming.{sum_set_two, apart}
 
 abbrev one : Standing → ℕ

@@ -1,5 +1,5 @@
 -- Laws of `at`, and of what an order needs.
-use Rattle.std.proofs.Common.{◌≡◌, ℕ, ◌+◌, ◌-◌, ◌*◌, ◌<◌, ◌≤◌, Bool, true, false, cond, ◌&&◌, eqb, sym, refl, ap, ◌∙◌, add-mul, arith}
+use Rattle.std.proofs.Common.{◌≡◌, ℕ, ◌+◌, ◌-◌, ◌*◌, ◌≤◌, Bool, true, false, cond, ◌&&◌, eqb, sym, refl, ap, ◌∙◌, add-mul, arith}
 use Rattle.std.proofs.lemmas.Bool.{eqb-true, and_parts, and_from, eq-eqb, cond-true}
 use Rattle.ledger.specs.Laws.{at}
 use Rattle.market.specs.declared.kinds.Side.{Side}
@@ -8,7 +8,6 @@ use Rattle.market.specs.declared.price.Price.{Price}
 use Rattle.market.specs.Figures.{quantity}
 use Rattle.tape.specs.declared.line.OrderLine.{OrderLine}
 use Rattle.tape.specs.Nets.{at as net_at, brings, takes}
-use Rattle.rules.specs.declared.order.Order.{Order}
 use Rattle.rules.specs.declared.order.Standing.{Standing}
 use Rattle.rules.specs.Orders.{item_of, item_for, amount_of, amount_for, need, less_live, with_live}
 

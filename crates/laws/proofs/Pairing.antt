@@ -1,6 +1,5 @@
 -- Valid events keep the deals of the lines paired.
-use Rattle.std.proofs.Common.{◌≡◌, ℕ, suc, ◌+◌, List, [], ◌∷◌, ◌++◌, map, sym, refl, ap, ◌∙◌, append_assoc, append-nil, add-one}
-use Rattle.std.specs.List.{flat_map}
+use Rattle.std.proofs.Common.{◌≡◌, ℕ, ◌+◌, List, [], ◌∷◌, ◌++◌, map, sym, refl, ap, ◌∙◌, append_assoc, append-nil, add-one}
 use Rattle.std.proofs.lemmas.List.{map_push}
 use Rattle.market.specs.declared.kinds.Side.{Side}
 use Rattle.market.specs.declared.kinds.Side.TheVariants.{Buy, Sell}
@@ -13,8 +12,8 @@ use Rattle.rules.specs.declared.event.Event.{Event}
 use Rattle.rules.specs.declared.event.Event.TheVariants.{Entered, Dealt, Cancelled, PaidIn, DrawnOut}
 use Rattle.rules.specs.declared.order.Order.{Order}
 use Rattle.rules.specs.Orders.{order_at}
-use Rattle.rules.specs.Effects.{lines_of, order_line, deals_after}
-use Rattle.laws.specs.Days.{Day, step, run, Valid, ValidAll}
+use Rattle.rules.specs.Effects.{lines_of, order_line}
+use Rattle.laws.specs.Days.{Day, step, Valid}
 use Rattle.laws.specs.Paired.{Ticket, ticket, on_side, ticket_in, tickets, upto, Paired, DealsPaired}
 
 tickets_append : (side : Side) (ls ms : List Line) → tickets side (ls ++ ms) ≡ tickets side ls ++ tickets side ms

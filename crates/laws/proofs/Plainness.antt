@@ -1,24 +1,22 @@
 -- After an entry the table is the plain day's.
-use Rattle.std.proofs.Common.{◌≡◌, ℕ, zero, suc, ◌+◌, ◌-◌, ◌<◌, ◌≤◌, Bool, true, false, cond, ◌&&◌, eqb, ltb, ◌⊎◌, List, [], ◌∷◌, ◌++◌, length, get_or, set, is_some, Some, None, Option, sym, refl, ap, ◌∙◌, subst, inl, inr, ⊎_elim, arith}
+use Rattle.std.proofs.Common.{◌≡◌, ℕ, zero, suc, ◌-◌, ◌<◌, Bool, true, false, cond, ◌&&◌, eqb, ltb, List, [], ◌∷◌, ◌++◌, length, set, Some, None, Option, sym, refl, ap, ◌∙◌, arith}
 use Rattle.std.specs.Option.{option_map}
 use Rattle.std.proofs.lemmas.List.{set-append_left, set_at, get_or_append_left, get_or_push, get_or-set_same, set-set, set-get_or, length-set}
-use Rattle.std.proofs.lemmas.Bool.{cond_both, cond-true, cond-false, and_parts, eqb-true, ltb-true, ltb-false, eqb-false, cases_Bool, both_ways}
+use Rattle.std.proofs.lemmas.Bool.{cond_both, cond-true, cond-false, and_parts, eqb-true, ltb-true, ltb-false, both_ways}
 use Rattle.market.specs.declared.kinds.Side.{Side}
 use Rattle.market.specs.declared.kinds.Side.TheVariants.{Buy, Sell}
 use Rattle.market.specs.declared.kinds.OrderKind.{OrderKind}
 use Rattle.market.specs.declared.kinds.OrderKind.TheVariants.{Intention, FirmQuote, Negotiated, Click}
-use Rattle.market.specs.Figures.{quantity}
 use Rattle.rules.specs.declared.event.Follow.{Follow}
-use Rattle.rules.specs.declared.event.Follow.TheVariants.{Wait, CancelBoth, CancelOne}
+use Rattle.rules.specs.declared.event.Follow.TheVariants.{CancelBoth, CancelOne}
 use Rattle.market.specs.declared.kinds.CancelReason.TheVariants.{Mismatch}
 use Rattle.rules.specs.declared.order.Order.{Order}
 use Rattle.rules.specs.declared.order.Standing.{Standing}
 use Rattle.rules.specs.declared.security.Security.{Security}
 use Rattle.rules.specs.Orders.{order_at, no_one, first_place, less_live, with_live}
 use Rattle.rules.specs.Listing.{find_listed}
-use Rattle.rules.specs.Dealing.{waits_for, quoted_for, fits, stands_on, deal, meet, click_short, quote_short, hit, click, decide_as, follow_events, entry_events, cancel_events}
-use Rattle.rules.specs.Effects.{orders_after}
-use Rattle.rules.specs.Plain.{Day, live_of, leave, nothing, any, rest_of, plain_entry_as}
+use Rattle.rules.specs.Dealing.{waits_for, quoted_for, fits, stands_on, deal, meet, click_short, quote_short, hit, click, decide_as, follow_events, cancel_events}
+use Rattle.rules.specs.Plain.{live_of, leave, nothing, any, rest_of, plain_entry_as}
 use Rattle.laws.specs.Plainly.{tables, One, EntriesPlain, CancelsPlain, ClosesPlain}
 use Rattle.laws.proofs.Entering.{Found, found}
 

@@ -1,25 +1,22 @@
 -- An accepted entry keeps every search single.
-use Rattle.std.proofs.Common.{◌≡◌, ℕ, ◌+◌, ◌-◌, ◌<◌, ◌≤◌, Bool, true, false, cond, not, ◌&&◌, ◌||◌, eqb, ltb, leb, ◌⊎◌, List, [], ◌∷◌, ◌++◌, length, take, is_some, Some, None, Ok, Err, count_by, Option, sym, refl, ap, ◌∙◌, subst, ⊎_elim, arith}
+use Rattle.std.proofs.Common.{◌≡◌, ℕ, ◌-◌, ◌<◌, ◌≤◌, Bool, true, false, cond, not, ◌&&◌, eqb, leb, List, length, is_some, count_by, sym, refl, ap, ◌∙◌, ⊎_elim, arith}
 use Rattle.std.proofs.lemmas.List.{take_all}
 use Rattle.std.proofs.lemmas.Bool.{and_parts, or_cases, not-true, eqb-true, ltb-true, both_ways, cond_both, false≢true}
 use Rattle.market.specs.declared.kinds.OrderKind.{OrderKind}
 use Rattle.market.specs.declared.kinds.OrderKind.TheVariants.{Intention, FirmQuote, Negotiated, Click}
 use Rattle.market.specs.declared.kinds.Sort.{Sort}
 use Rattle.market.specs.declared.kinds.Sort.TheVariants.{Intention as intentions, FirmQuote as firm_quotes, DealOrder}
-use Rattle.market.specs.Figures.{quantity}
 use Rattle.market.specs.Kinds.{kind_number}
 use Rattle.rules.specs.declared.order.Order.{Order}
 use Rattle.rules.specs.declared.order.Standing.{Standing}
 use Rattle.rules.specs.declared.security.Security.{Security}
 use Rattle.rules.specs.Orders.{order_at, is_live, first_place}
-use Rattle.rules.specs.declared.request.Entry.{Entry}
-use Rattle.rules.specs.Calls.{enter_answer}
-use Rattle.rules.specs.Checks.{is_kind, waits, kind_for, number_for, order_for, number_free, number_free_for, has_dealt}
+use Rattle.rules.specs.Checks.{is_kind, waits, kind_for, number_for, order_for, number_free_for, has_dealt}
 use Rattle.rules.specs.Dealing.{waits_for, quoted_for, fits, stands_on}
 use Rattle.rules.specs.Listing.{find_listed}
 use Rattle.rules.specs.Plain.{live_of, leave, nothing, any, rest_of, plain_entry_as}
 use Rattle.rules.specs.State.{State}
-use Rattle.laws.specs.Single.{Numbered, Single, Fewer, KeptSingle, EntriesSingle}
+use Rattle.laws.specs.Single.{Fewer, KeptSingle, EntriesSingle}
 use Rattle.laws.proofs.Accepting.{nothing_found, number_accepted}
 use Rattle.laws.proofs.Leaving.{waited, leave_fewer, leave_count, leave_numbered, fewer_single, single_more, numbered_more}
 use Rattle.laws.proofs.Plainness.{any_some}

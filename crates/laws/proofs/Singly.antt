@@ -1,16 +1,15 @@
 -- At most one live order answers a search.
-use Rattle.std.proofs.Common.{◌≡◌, ℕ, zero, suc, ◌+◌, ◌-◌, ◌<◌, ◌≤◌, Bool, true, false, cond, ◌&&◌, eqb, ltb, ◌⊎◌, List, [], ◌∷◌, ◌++◌, length, get_or, take, count_by, sym, refl, ap, ◌∙◌, subst, ⊎_elim, arith}
+use Rattle.std.proofs.Common.{◌≡◌, ℕ, ◌+◌, ◌<◌, ◌≤◌, true, cond, eqb, List, length, take, count_by, sym, ap, ◌∙◌, ⊎_elim, arith}
 use Rattle.std.proofs.lemmas.List.{take-take, length-take}
 use Rattle.std.proofs.lemmas.List.Sums.{count_by_more_yes, count_by-le-length, sum_by-take-le}
 use Rattle.std.proofs.lemmas.Bool.{and_parts, eqb-true, cases_order}
-use Rattle.market.specs.declared.kinds.OrderKind.TheVariants.{FirmQuote, Negotiated}
-use Rattle.rules.specs.declared.order.Order.{Order}
+use Rattle.market.specs.declared.kinds.OrderKind.TheVariants.{FirmQuote}
 use Rattle.rules.specs.declared.order.Standing.{Standing}
 use Rattle.rules.specs.Orders.{order_at, no_one, is_live}
-use Rattle.rules.specs.Checks.{is_kind, waits}
-use Rattle.rules.specs.Dealing.{waits_for, quoted_for}
+use Rattle.rules.specs.Checks.{is_kind}
+use Rattle.rules.specs.Dealing.{quoted_for}
 use Rattle.laws.specs.Plainly.{One}
-use Rattle.laws.specs.Single.{Numbered, Single, SearchesSingle}
+use Rattle.laws.specs.Single.{Numbered, SearchesSingle}
 
 quotes_before : (t : List Standing) (k l : ℕ) → k < l → l < length t → is_kind FirmQuote (order_at t k) ≡ true → count_by (is_kind FirmQuote) (take k t) < count_by (is_kind FirmQuote) (take l t)
 quotes_before t k l h hl q =

@@ -1,5 +1,5 @@
 -- Every deal reaches the least size of its class.
-use Rattle.std.proofs.Common.{◌≡◌, ℕ, zero, suc, ◌+◌, ◌-◌, ◌<◌, ◌≤◌, Bool, true, false, cond, ◌&&◌, eqb, ◌⊎◌, List, [], ◌∷◌, ◌++◌, length, Some, None, Ok, Option, sym, refl, ap, ◌∙◌, subst, ⊎_elim, append_assoc, arith}
+use Rattle.std.proofs.Common.{◌≡◌, ℕ, zero, suc, ◌+◌, ◌-◌, ◌<◌, ◌≤◌, Bool, true, cond, eqb, ◌⊎◌, List, [], ◌∷◌, ◌++◌, length, Some, None, Option, sym, refl, ap, ◌∙◌, subst, ⊎_elim, arith}
 use Rattle.std.proofs.lemmas.List.{length_push, get_or_append_left, get_or_push}
 use Rattle.std.proofs.lemmas.Bool.{and_parts, and_from, eqb-true, cases_lt, cond_both}
 use Rattle.market.specs.declared.kinds.OrderKind.{OrderKind}
@@ -10,26 +10,23 @@ use Rattle.market.specs.declared.quantity.Quantity.{Quantity}
 use Rattle.market.specs.Classes.{reaches}
 use Rattle.market.specs.Figures.{quantity}
 use Rattle.tape.specs.declared.line.Line.{Line}
-use Rattle.tape.specs.declared.line.Line.TheVariants.{Entry, Deal, Cancel}
 use Rattle.rules.specs.declared.event.Event.{Event}
 use Rattle.rules.specs.declared.event.Event.TheVariants.{Entered, Dealt, Cancelled}
 use Rattle.rules.specs.declared.event.Follow.{Follow}
 use Rattle.rules.specs.declared.event.Follow.TheVariants.{Wait, Deal as deal_follows, CancelBoth, DealAndCancel, CancelOne}
 use Rattle.rules.specs.declared.order.Order.{Order}
 use Rattle.rules.specs.declared.order.Standing.{Standing}
-use Rattle.rules.specs.declared.request.Entry.{Entry as an_entry}
 use Rattle.rules.specs.declared.security.Security.{Security}
-use Rattle.rules.specs.State.{State}
 use Rattle.rules.specs.Orders.{order_at, no_one}
 use Rattle.rules.specs.Listing.{find_listed}
 use Rattle.rules.specs.Checks.{order_for}
 use Rattle.rules.specs.Dealing.{opposite, waits_for, quoted_for, fits, stands_on, decide, follow_events}
 use Rattle.rules.specs.Effects.{order_line, lines_of}
 use Rattle.rules.specs.Plain.{live_of, leave, nothing, any, rest_of, plain_entry_as}
-use Rattle.laws.specs.Days.{Day, step, run, Valid, ValidAll, CanDeal}
+use Rattle.laws.specs.Days.{Day, step, run, CanDeal}
 use Rattle.laws.specs.Accepted.{day}
 use Rattle.laws.specs.Ending.{Strict, StrictAll}
-use Rattle.laws.specs.Sized.{Sized, LiveSized, line_reaches, is_sized, all_sized, LeavesSized, EntriesSized}
+use Rattle.laws.specs.Sized.{Sized, LiveSized, line_reaches, is_sized, all_sized, EntriesSized}
 use Rattle.laws.proofs.Accepting.{entry_passed, entries_strict}
 
 -- The table.

@@ -1,11 +1,10 @@
 -- Every valid event keeps a day sound.
-use Rattle.std.proofs.Common.{◌≡◌, ℕ, ◌+◌, ◌*◌, ◌<◌, ◌≤◌, true, List, [], ◌∷◌, ◌++◌, length, set, Ok, sum_by, sym, refl, ap, ◌∙◌, subst, arith}
+use Rattle.std.proofs.Common.{◌≡◌, ℕ, ◌+◌, ◌*◌, ◌<◌, ◌≤◌, true, List, [], ◌∷◌, ◌++◌, length, set, Ok, sym, refl, ap, ◌∙◌, arith}
 use Rattle.std.proofs.lemmas.List.Sums.{sum_by-set, sum_by_push, sum_by-append, get_or-le-sum_by}
 use Rattle.ledger.specs.Books.{Book, Lawful}
-use Rattle.ledger.specs.Moves.{pass_answer, pass_after, pay_in_answer, draw_out_answer}
+use Rattle.ledger.specs.Moves.{pass_answer, pass_after}
 use Rattle.ledger.specs.Laws.{at}
 use Rattle.ledger.proofs.Keeping.{hold_moved, release_moved, pay_in_moved, draw_out_moved}
-use Rattle.ledger.proofs.Passing.{PassedWell}
 use Rattle.market.specs.declared.kinds.Side.{Side}
 use Rattle.market.specs.declared.kinds.Side.TheVariants.{Buy, Sell}
 use Rattle.market.specs.declared.kinds.CancelReason.{CancelReason}
@@ -14,16 +13,15 @@ use Rattle.market.specs.declared.quantity.Quantity.{Quantity}
 use Rattle.tape.specs.declared.line.Line.{Line}
 use Rattle.tape.specs.declared.line.OrderLine.{OrderLine}
 use Rattle.tape.specs.declared.line.PaymentLine.{PaymentLine}
-use Rattle.tape.specs.Nets.{comes, goes, coming, going, brings, takes}
-use Rattle.rules.specs.declared.event.Event.{Event}
+use Rattle.tape.specs.Nets.{comes, goes}
 use Rattle.rules.specs.declared.event.Event.TheVariants.{Entered, Dealt, Cancelled, PaidIn, DrawnOut}
 use Rattle.rules.specs.declared.order.Order.{Order}
 use Rattle.rules.specs.declared.order.Standing.{Standing}
 use Rattle.rules.specs.Orders.{order_at, no_one, item_of, item_for, amount_of, need, needed, less_live, with_live}
 use Rattle.rules.specs.Effects.{lines_of, order_line}
 use Rattle.laws.specs.Accounts.{enters, deals, cancels, lives, asks}
-use Rattle.laws.specs.Days.{Day, step, run, Valid, ValidAll, CanEnter, CanDeal, CanDealAt, CanCancel}
-use Rattle.laws.specs.Sound.{Sound, Open, AllOpen, Whole, StepSound, RunSound, OrdersWhole, MovesGranted}
+use Rattle.laws.specs.Days.{Day, step, Valid, CanDealAt}
+use Rattle.laws.specs.Sound.{Sound, StepSound, RunSound, OrdersWhole, MovesGranted}
 use Rattle.laws.proofs.Doing.{hold_granted, release_granted, pass_granted, hold_did, release_did, pass_did, pay_in_did, draw_out_did}
 use Rattle.laws.proofs.Needing.{at_nil, at_here, at_less, same_at, need_none, buyer_need, seller_need, brings_buyer, takes_buyer, brings_seller, takes_seller}
 use Rattle.laws.proofs.Naming.{same_put, distinct_same, distinct_more, opens_same, opens_more, opens_book, sum_set_two, apart, same_two, sum_named}

@@ -1,15 +1,13 @@
 -- A tape takes the lines of orders in range.
-use Rattle.std.proofs.Common.{◌≡◌, ℕ, ◌+◌, ◌*◌, ◌<◌, ◌≤◌, Bool, true, cond, ◌&&◌, ltb, leb, List, [], ◌∷◌, ◌++◌, length, sym, refl, ap, ◌∙◌, append_assoc, append-nil, mul-le-mul_right, arith}
+use Rattle.std.proofs.Common.{◌≡◌, ◌*◌, true, ltb, leb, List, [], ◌∷◌, length, sym, ap, ◌∙◌, append_assoc, append-nil, mul-le-mul_right, arith}
 use Rattle.std.proofs.lemmas.List.{length_push}
 use Rattle.std.proofs.lemmas.Bool.{and_parts, and_from, leb-true, le-leb, lt-ltb, cond-true}
-use Rattle.market.specs.declared.quantity.Quantity.{Quantity}
 use Rattle.tape.specs.declared.line.Line.{Line}
 use Rattle.tape.specs.Lines.{in_range, all_in_range}
 use Rattle.tape.specs.Tapes.{Contents, has_room, with_line, append_after}
-use Rattle.tape.proofs.Ranged.{OrderRanged, order_ranged, at_most}
-use Rattle.rules.specs.declared.order.Order.{Order}
+use Rattle.tape.proofs.Ranged.{order_ranged, at_most}
 use Rattle.rules.specs.Effects.{order_line, written}
-use Rattle.laws.specs.Fitting.{PartInRange, with_lines, LinesTaken}
+use Rattle.laws.specs.Fitting.{PartInRange, LinesTaken}
 
 pub part_in_range : PartInRange
 part_in_range o q time h some le t =

@@ -4,7 +4,7 @@
 --   CancelsValid      those of an accepted cancel
 --   PaymentsInValid, PaymentsOutValid   that of an accepted payment in, and of one out
 --   ClosesValid       those of a close, which leaves nothing live
-use Rattle.std.specs.Prelude.{◌≡◌, ℕ, List, [], ◌∷◌, map, Ok}
+use Rattle.std.specs.Prelude.{◌≡◌, [], ◌∷◌, map, Ok}
 use Rattle.rules.specs.declared.event.Event.TheVariants.{PaidIn, DrawnOut}
 use Rattle.rules.specs.declared.request.Entry.{Entry}
 use Rattle.rules.specs.declared.request.CancelOrder.{CancelOrder}

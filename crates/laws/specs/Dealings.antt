@@ -3,7 +3,7 @@
 --   NegotiatedFollows      a negotiated order waits, deals or is cancelled with the waiting one, which goes first
 --   ClickFollows           a click is cancelled alone, or deals the smaller quantity, and a rest is cancelled
 --   QuotesNumbered         numbers of firm quotes differ, and none is below 1,000,000
-use Rattle.std.specs.Prelude.{◌≡◌, ℕ, ◌-◌, ◌<◌, ◌≤◌, Bool, true, false, ◌&&◌, List, [], ◌∷◌, length, Some, None, ◌==◌, ◌≢◌}
+use Rattle.std.specs.Prelude.{◌≡◌, ℕ, ◌-◌, ◌<◌, ◌≤◌, true, false, ◌&&◌, List, [], ◌∷◌, length, Some, None, ◌==◌, ◌≢◌}
 use Rattle.market.specs.declared.kinds.Side.{Side}
 use Rattle.market.specs.declared.kinds.Side.TheVariants.{Buy, Sell}
 use Rattle.market.specs.declared.kinds.OrderKind.TheVariants.{FirmQuote, Negotiated, Click}

@@ -12,7 +12,7 @@ use Rattle.tape.specs.declared.line.Line.{Line}
 use Rattle.tape.specs.declared.line.Line.TheVariants.{Entry, Deal, Cancel, PaidIn, DrawnOut}
 use Rattle.tape.specs.declared.line.OrderLine.{OrderLine}
 use Rattle.rules.specs.declared.event.Event.{Event}
-use Rattle.laws.specs.Days.{Day, step, run, Valid, ValidAll}
+use Rattle.laws.specs.Days.{Day, run, ValidAll}
 
 pub record Ticket : Type 0 where
   pub number : ℕ

@@ -2,7 +2,7 @@
 --   load d          live orders and lines written, together
 --   ends x q        1 if a deal of q leaves nothing live of x, else 0
 --   LoadEntered, LoadCancelled, LoadDealt   what each event does to the load
-use Rattle.std.specs.Prelude.{◌≡◌, ℕ, ◌+◌, ◌-◌, ◌<◌, cond, List, length, nat_lt}
+use Rattle.std.specs.Prelude.{◌≡◌, ℕ, ◌+◌, ◌-◌, ◌<◌, cond, length, nat_lt}
 use Rattle.market.specs.declared.kinds.CancelReason.{CancelReason}
 use Rattle.market.specs.declared.quantity.Quantity.{Quantity}
 use Rattle.rules.specs.declared.event.Event.TheVariants.{Entered, Dealt, Cancelled}

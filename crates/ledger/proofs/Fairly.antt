@@ -1,9 +1,9 @@
 -- A fair edit: the pair stays open, has g more and l less free, k more and h less held, and its item's
 -- total stays within the limit.
-use Rattle.std.proofs.Common.{◌≡◌, ℕ, ◌+◌, ◌<◌, ◌≤◌, Bool, true, false, ◌⊎◌, sym, refl, ap, ◌∙◌, subst, ⊎_elim, arith}
+use Rattle.std.proofs.Common.{◌≡◌, ℕ, ◌+◌, ◌≤◌, true, false, sym, refl, ap, ◌∙◌, subst, ⊎_elim, arith}
 use Rattle.std.proofs.lemmas.Bool.{cases_eq, cases_Bool, true≢false}
-use Rattle.ledger.specs.Books.{Figures, Book, accounts_end, limit, in_range, nothing, worth, total, Lawful}
-use Rattle.ledger.specs.Moves.{Change, put, edit, same_pair}
+use Rattle.ledger.specs.Books.{Figures, Book, limit, in_range, nothing, total, Lawful}
+use Rattle.ledger.specs.Moves.{Change, put, edit}
 use Rattle.ledger.specs.Laws.{at, of, Stays, Else}
 use Rattle.ledger.proofs.Puts.{in_accounts, put_other, put_each, total_put, total_part, worth_open, of_here, of_there, at_here, at_there}
 

@@ -1,8 +1,7 @@
 -- What the searches for something held say.
-use Rattle.std.proofs.Common.{◌≡◌, ℕ, ◌<◌, Bool, true, false, ◌&&◌, ◌||◌, ltb, ◌⊎◌, Decides, MatchBool, sym, refl, ap, ◌∙◌, subst, ⊎_elim, arith}
+use Rattle.std.proofs.Common.{◌≡◌, ℕ, ◌<◌, Bool, true, false, ◌&&◌, ◌||◌, ltb, Decides, MatchBool, sym, ap, ◌∙◌, subst, ⊎_elim, arith}
 use Rattle.std.proofs.lemmas.Bool.{cases_eq, cases_Bool, or_left, or_right, or_cases, true≢false}
 use Rattle.std.proofs.lemmas.Bool.Decides.{Decides-ltb, Decides-and}
-use Rattle.ledger.specs.Ranging.{any_to}
 use Rattle.ledger.specs.Books.{Figures, Book, accounts_end, items_end, Lawful}
 use Rattle.ledger.specs.Questions.{held_in, any_money, any_security, any_held, NoneHeld, SomeHeld}
 use Rattle.ledger.proofs.Adding.{any_to_decides}

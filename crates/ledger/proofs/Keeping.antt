@@ -1,5 +1,5 @@
 -- Each move is lawful, and keeps its law.
-use Rattle.std.proofs.Common.{◌≡◌, ℕ, ◌+◌, ◌-◌, ◌≤◌, true, refl, arith}
+use Rattle.std.proofs.Common.{◌≡◌, ℕ, ◌+◌, ◌≤◌, true, arith}
 use Rattle.market.specs.declared.refusal.Refusal.TheVariants.{FreeTooSmall, MoreThanHeld, TotalTooLarge}
 use Rattle.ledger.specs.Books.{Book, limit, total, Lawful}
 use Rattle.ledger.specs.Moves.{to_held, to_free, more_free, less_free, hold_answer, hold_after, release_answer, release_after, pay_in_answer, pay_in_after, draw_out_answer, draw_out_after}

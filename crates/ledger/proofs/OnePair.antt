@@ -1,9 +1,9 @@
 -- Every move of one pair: a check of `have` against `need`, and a change that is fair if the check is passed.
-use Rattle.std.proofs.Common.{◌≡◌, ℕ, ◌+◌, ◌<◌, ◌≤◌, Bool, true, false, cond, ltb, Ok, Err, sym, refl, ap, ◌∙◌, subst, arith}
+use Rattle.std.proofs.Common.{◌≡◌, ℕ, ◌<◌, ◌≤◌, Bool, true, false, cond, ltb, Ok, Err, sym, refl, ap, ◌∙◌, subst}
 use Rattle.std.proofs.lemmas.Bool.{ltb-false, lt-ltb, le-ltb, cond-true, cond-false}
 use Rattle.market.specs.declared.refusal.Refusal.{Refusal}
 use Rattle.market.specs.declared.refusal.Refusal.TheVariants.{PairNotOpen}
-use Rattle.ledger.specs.Books.{Figures, Book, total, Lawful}
+use Rattle.ledger.specs.Books.{Figures, Book, Lawful}
 use Rattle.ledger.specs.Moves.{Answer, Change, edit, checked, when_done}
 use Rattle.ledger.specs.Laws.{done, at, of, Leaves}
 use Rattle.ledger.proofs.Puts.{of_zero, at_zero}

@@ -1,9 +1,9 @@
 -- A pair opened with nothing changes no figure.
-use Rattle.std.proofs.Common.{◌≡◌, ℕ, ◌<◌, ◌≤◌, Bool, true, false, cond, ltb, Ok, Err, sym, refl, ap, subst, arith}
+use Rattle.std.proofs.Common.{◌≡◌, ℕ, ◌<◌, Bool, true, false, cond, ltb, Ok, Err, sym, refl, ap, arith}
 use Rattle.std.proofs.lemmas.Bool.{cond-false, true≢false}
 use Rattle.std.proofs.lemmas.Bool.Decides.{nat_tests}
 use Rattle.market.specs.declared.refusal.Refusal.TheVariants.{OutOfRange, PairOpen, NoLedgerLine}
-use Rattle.ledger.specs.Books.{Figures, Book, nothing, in_range, worth, limit, total, Lawful}
+use Rattle.ledger.specs.Books.{Figures, Book, nothing, in_range, worth, Lawful}
 use Rattle.ledger.specs.Moves.{Answer, put, when_done}
 use Rattle.ledger.specs.Opening.{new_pair, open_answer, open_after, SameFigures}
 use Rattle.ledger.proofs.Puts.{in_accounts, put_each, total_put}

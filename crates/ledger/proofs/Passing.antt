@@ -1,13 +1,13 @@
 -- A pass: n less held by the giver, then n more free for the taker.
-use Rattle.std.proofs.Common.{◌≡◌, ℕ, ◌+◌, ◌-◌, ◌<◌, ◌≤◌, Bool, true, false, cond, ltb, Ok, Err, sym, refl, ap, ◌∙◌, subst, arith}
+use Rattle.std.proofs.Common.{◌≡◌, ℕ, ◌+◌, ◌≤◌, Bool, true, false, cond, ltb, Ok, Err, refl, ◌∙◌, arith}
 use Rattle.std.proofs.lemmas.Bool.{ltb-false}
 use Rattle.market.specs.declared.refusal.Refusal.{Refusal}
 use Rattle.market.specs.declared.refusal.Refusal.TheVariants.{PairNotOpen, MoreThanHeld}
-use Rattle.ledger.specs.Books.{Figures, Book, limit, total, Lawful}
+use Rattle.ledger.specs.Books.{Book, limit, total, Lawful}
 use Rattle.ledger.specs.Moves.{Answer, edit, when_done, more_free, less_held, pass_answer, pass_after}
-use Rattle.ledger.specs.Laws.{has, done, at, of, Stays, Passed}
+use Rattle.ledger.specs.Laws.{Passed}
 use Rattle.ledger.proofs.Puts.{of_here, of_zero, at_zero}
-use Rattle.ledger.proofs.Fairly.{Fair, Shift, edit_shift, edit_lawful}
+use Rattle.ledger.proofs.Fairly.{Fair, edit_shift, edit_lawful}
 
 pub give_fair : (m : Book) (a i n : ℕ) → Lawful m → (m a i).is_open ≡ true → n ≤ (m a i).held → Fair less_held m a i n 0 0 0 n
 give_fair m a i n L o h = record { was = o; stays = o; free = refl; held = omega arith; fits = let b = L.bounded i in omega arith }

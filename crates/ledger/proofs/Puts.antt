@@ -1,9 +1,8 @@
 -- What a put does to the pairs and to the totals.
-use Rattle.std.proofs.Common.{◌≡◌, ℕ, ◌+◌, ◌<◌, ◌≤◌, Bool, true, false, cond, ◌&&◌, eqb, ◌⊎◌, sym, refl, ap, ◌∙◌, subst, ⊎_elim, arith}
+use Rattle.std.proofs.Common.{◌≡◌, ℕ, ◌+◌, ◌<◌, ◌≤◌, true, false, eqb, sym, refl, ap, subst, ⊎_elim, arith}
 use Rattle.std.proofs.lemmas.Bool.{cases_eq, cases_Bool, eq-eqb, ne_eqb, eqb-true, and_parts, and_left, and_right, and_from, cond-true, cond-false}
 use Rattle.std.proofs.lemmas.Bool.Decides.{nat_tests}
-use Rattle.ledger.specs.Ranging.{sum_to}
-use Rattle.ledger.specs.Books.{Figures, Book, accounts_end, items_end, limit, in_range, worth, total, Lawful}
+use Rattle.ledger.specs.Books.{Figures, Book, accounts_end, items_end, in_range, worth, total}
 use Rattle.ledger.specs.Moves.{put, same_pair}
 use Rattle.ledger.specs.Laws.{at, of}
 use Rattle.ledger.proofs.Adding.{sum_to_cong, sum_to_change, sum_to_part}

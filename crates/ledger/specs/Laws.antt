@@ -14,7 +14,7 @@
 --   Passed m after r a b i n   n moved from the held of a to the free of b; every total stays
 --   PaidIn m after r a i n     n more free, for the account and in the total
 --   DrawnOut m after r a i n   n less free, for the account and in the total
-use Rattle.std.specs.Prelude.{◌≡◌, ℕ, ◌+◌, Bool, false, cond, Ok, Err, ◌==◌}
+use Rattle.std.specs.Prelude.{◌≡◌, ℕ, ◌+◌, false, cond, Ok, Err, ◌==◌}
 use Rattle.ledger.specs.Books.{Book, total}
 use Rattle.ledger.specs.Moves.{Answer, same_pair}
 

@@ -1,15 +1,15 @@
 -- Where a pair's record stands, and what it says.
-use Rattle.std.proofs.Common.{◌≡◌, ℕ, ◌+◌, ◌<◌, ◌≤◌, Bool, true, false, ◌⊎◌, List, length, get_or, is_some, Some, None, Option, sym, refl, ap, ◌∙◌, subst, ⊎_elim, add-one, arith, MatchOption}
+use Rattle.std.proofs.Common.{◌≡◌, ℕ, ◌+◌, ◌<◌, ◌≤◌, true, false, List, length, get_or, is_some, Some, None, Option, sym, refl, ap, ◌∙◌, subst, ⊎_elim, add-one, arith, MatchOption}
 use borrow.Author.Rules.{get_or_read}
 use Rattle.std.proofs.lemmas.Bool.{cases_Bool, true≢false}
-use Rattle.ledger.specs.Books.{Figures, Book, nothing, in_range, limit}
+use Rattle.ledger.specs.Books.{Figures, Book, nothing, limit}
 use Rattle.ledger.specs.Questions.{any_money, any_security}
 use Rattle.ledger.proofs.Fairly.{open_fits}
 use Rattle.ledger.proofs.Puts.{in_accounts, in_items}
 use Rattle.ledger.proofs.Holding.{HeldIn, money_decides, security_decides}
 use Rattle.line_ledger.specs.declared.record.PairRecord.{PairRecord}
 use Rattle.line_ledger.specs.Rows.{blank, figures, row, stands, look, Apart, Kept}
-use Rattle.line_ledger.specs.Reading.{look_at, look_past, look_here, look_none, stands_true, stands_is, kept_lawful}
+use Rattle.line_ledger.specs.Reading.{look_at, look_past, look_here, stands_true, stands_is, kept_lawful}
 
 abbrev pub Place : List PairRecord → ℕ → ℕ → ℕ → ℕ → Type 0
 Place rows n k a i = (k < n) × ((row rows k).account ≡ a) × ((row rows k).item ≡ i)

@@ -1,5 +1,5 @@
 -- A Vec whose slice was lent holds what the slice held.
-use Rattle.std.proofs.Common.{◌≡◌, ℕ, List, ◌++◌, length, take, drop, sym, refl, ap, ◌∙◌, subst, arith, take_all}
+use Rattle.std.proofs.Common.{◌≡◌, ℕ, List, ◌++◌, length, take, sym, ap, ◌∙◌, subst, arith, take_all}
 use lib.Seq.{take-append-le}
 use Rattle.ledger.specs.Books.{Book}
 use Rattle.ledger.specs.Moves.{Answer}

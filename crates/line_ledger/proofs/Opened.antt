@@ -1,5 +1,5 @@
 -- One more record: a pair opened with nothing.
-use Rattle.std.proofs.Common.{◌≡◌, ℕ, suc, ◌+◌, ◌-◌, ◌<◌, ◌≤◌, Bool, true, false, cond, ltb, ◌⊎◌, List, length, get_or, set, Ok, Err, sym, refl, ap, ◌∙◌, subst, ⊎_elim, add-one, arith, length-set, get_or-set_other, get_or-set_same}
+use Rattle.std.proofs.Common.{◌≡◌, ℕ, ◌+◌, ◌-◌, ◌<◌, ◌≤◌, true, false, ltb, List, length, get_or, set, Ok, Err, sym, refl, ap, ◌∙◌, subst, ⊎_elim, add-one, arith, length-set, get_or-set_other, get_or-set_same}
 use mathlib.Core.Path.{fun_ext}
 use Rattle.std.proofs.lemmas.Bool.{cases_eq, true≢false, lt-ltb, le-ltb, cond-true, cond-false}
 use Rattle.std.proofs.lemmas.Bool.Decides.{nat_tests}
@@ -9,7 +9,7 @@ use Rattle.ledger.specs.Books.{Figures, Book, nothing, in_range, limit, total, w
 use Rattle.ledger.specs.Moves.{Answer, put, when_done}
 use Rattle.ledger.proofs.Puts.{in_accounts, put_each, total_put}
 use Rattle.line_ledger.specs.declared.record.PairRecord.{PairRecord}
-use Rattle.line_ledger.specs.Rows.{blank, row, figures, look, Clash, Apart, Ranged, Bounded, Kept}
+use Rattle.line_ledger.specs.Rows.{blank, row, figures, look, Kept}
 use Rattle.line_ledger.specs.Opening.{new_pair, room_of, open_answer, open_after, room_after, SameFigures}
 use Rattle.line_ledger.specs.Reading.{look_at, look_more, look_set_past, look_closed, look_none}
 use Rattle.line_ledger.proofs.Summing.{total_none}

@@ -1,5 +1,5 @@
 -- An item's total is the sum over the records.
-use Rattle.std.proofs.Common.{◌≡◌, ℕ, zero, suc, ◌+◌, ◌<◌, ◌≤◌, true, List, sym, refl, ap, ◌∙◌, subst, add-one, arith}
+use Rattle.std.proofs.Common.{◌≡◌, ℕ, zero, suc, ◌+◌, ◌<◌, ◌≤◌, List, sym, refl, ap, ◌∙◌, add-one, arith}
 use Rattle.ledger.specs.Ranging.{sum_to}
 use Rattle.ledger.specs.Books.{Book, accounts_end, limit, total, worth}
 use Rattle.ledger.specs.Moves.{put}

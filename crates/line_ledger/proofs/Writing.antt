@@ -1,9 +1,9 @@
 -- What a write of one record comes to in the book: every move of one pair, by its check and its change.
-use Rattle.std.proofs.Common.{◌≡◌, ℕ, ◌+◌, ◌-◌, ◌<◌, ◌≤◌, Bool, true, false, cond, List, length, get_or, set, Ok, Err, sym, refl, ap, ◌∙◌, subst, arith}
+use Rattle.std.proofs.Common.{◌≡◌, ℕ, ◌+◌, ◌-◌, ◌<◌, ◌≤◌, Bool, true, false, cond, List, set, Ok, Err, sym, refl, ap, ◌∙◌, subst, arith}
 use Rattle.std.proofs.lemmas.Bool.{cond-true, cond-false}
 use Rattle.market.specs.declared.refusal.Refusal.{Refusal}
 use Rattle.market.specs.declared.refusal.Refusal.TheVariants.{PairNotOpen, MoreThanHeld}
-use Rattle.ledger.specs.Books.{Figures, Book, nothing, limit, total, worth, Lawful}
+use Rattle.ledger.specs.Books.{Figures, Book, nothing, limit, total, Lawful}
 use Rattle.ledger.specs.Moves.{Answer, Change, put, edit, checked, when_done, less_held, more_free, pass_answer, pass_after}
 use Rattle.ledger.proofs.Puts.{in_accounts, total_part, worth_open}
 use Rattle.ledger.proofs.Fairly.{Fair, edit_lawful}

@@ -1,12 +1,12 @@
 -- The book of a table of records: what a read finds, and what a write leaves.
-use Rattle.std.specs.Prelude.{◌≡◌, ℕ, zero, suc, ◌+◌, ◌<◌, ◌≤◌, Bool, true, false, cond, ◌&&◌, ◌⊎◌, List, length, ◌==◌, ◌≢◌, slice_index_or, slice_set, refl}
+use Rattle.std.specs.Prelude.{◌≡◌, ℕ, zero, suc, ◌<◌, ◌≤◌, Bool, true, false, cond, List, length, ◌==◌, ◌≢◌, slice_index_or, slice_set, refl}
 use Rattle.std.proofs.Common.{sym, ap, subst, ◌∙◌, ⊎_elim, arith, length-set, get_or-set_same, get_or-set_other}
 use Rattle.std.proofs.Math.Path.{fun_ext}
 use Rattle.std.proofs.lemmas.Bool.{cases_eq, cases_Bool, eq-eqb, ne_eqb, eqb-true, and_from, and_parts, and_left, and_right, true≢false, false≢true, cond-true, cond-false}
-use Rattle.ledger.specs.Books.{Figures, Book, nothing, in_range, limit, total, worth, Lawful}
+use Rattle.ledger.specs.Books.{Figures, nothing, in_range, Lawful}
 use Rattle.ledger.specs.Moves.{same_pair, put}
 use Rattle.line_ledger.specs.declared.record.PairRecord.{PairRecord}
-use Rattle.line_ledger.specs.Rows.{blank, figures, row, stands, look, Clash, Apart, Ranged, Bounded, Kept}
+use Rattle.line_ledger.specs.Rows.{blank, figures, row, stands, look, Apart, Ranged, Bounded, Kept}
 
 pub stands_true : (p : PairRecord) (a i : ℕ) → p.account ≡ a → p.item ≡ i → stands p a i ≡ true
 stands_true p a i e d = and_from (p.account == a) (p.item == i) (eq-eqb p.account a e) (eq-eqb p.item i d)

@@ -1,12 +1,12 @@
 -- A task that was done, from what the call promised.
-use Rattle.std.proofs.Common.{◌≡◌, ℕ, sym, refl, ap, ◌∙◌, subst}
+use Rattle.std.proofs.Common.{◌≡◌, ℕ, sym, ap, ◌∙◌, subst}
 use Rattle.ledger.specs.Books.{Room}
 use Rattle.ledger.specs.Moves.{Answer as Moved}
 use Rattle.ledger.specs.Opening.{Sharing, room_after}
 use Rattle.rules.specs.State.{State}
 use Rattle.rules.specs.Plain.{Act}
 use Rattle.rules.specs.Replies.{Reply, left_by, accepted, Replied}
-use Rattle.rules.specs.Steps.{Step, call, pair, replied, moved, Desk, pair_reply, pair_opened}
+use Rattle.rules.specs.Steps.{call, pair, replied, moved, Desk, pair_reply, pair_opened}
 use Rattle.answers.specs.declared.answer.Answer.{Answer}
 use Rattle.practice.specs.Tasks.{Task, asks, reply_told, move_told}
 use Rattle.practice.specs.Working.{Did}

@@ -3,11 +3,11 @@ use Rattle.std.proofs.Common.{◌≡◌, suc, List, [], ◌∷◌, ◌++◌, sym
 use Rattle.std.proofs.lemmas.List.{append_assoc, append-nil}
 use Rattle.ledger.specs.Opening.{Sharing}
 use Rattle.rules.specs.declared.security.ListEntry.{ListEntry}
-use Rattle.rules.specs.Steps.{Step, Outcome, Desk, leaves, Ran}
+use Rattle.rules.specs.Steps.{Step, Outcome, Desk, Ran}
 use Rattle.sheet.specs.Told.{Told}
 use Rattle.answers.specs.declared.answer.Answer.{Answer}
-use Rattle.practice.specs.Tasks.{Task, settled, asks, task, gathers, with_task, with_outcome, steps_of, told_as, answers_of}
-use Rattle.practice.specs.Working.{Stepped, Did, Worked}
+use Rattle.practice.specs.Tasks.{Task, settled, asks, task, gathers, with_task, with_outcome, steps_of, answers_of}
+use Rattle.practice.specs.Working.{Did, Worked}
 
 -- one task more before the steps ks
 more_steps : (share : Sharing) (d x e : Desk) (k : Task) (a : Answer) (ks : List Step) (os : List Outcome) (rest : List Outcome → List Answer) → Did share d k a x → Ran share x ks os e → (us : List Outcome) × (Ran share d (with_task k ks) us e × (a ∷ rest os ≡ with_outcome k us rest))

@@ -8,7 +8,7 @@
 use Rattle.std.specs.Prelude.{ℕ, List, [], ◌∷◌, Ok, Err}
 use Rattle.ledger.specs.Moves.{Answer as Moved}
 use Rattle.rules.specs.declared.security.ListEntry.{ListEntry}
-use Rattle.rules.specs.Plain.{Act, opens, enters, cancels, pays_in, draws_out, closes}
+use Rattle.rules.specs.Plain.{opens, enters, cancels, pays_in, draws_out, closes}
 use Rattle.rules.specs.Replies.{Reply}
 use Rattle.rules.specs.Steps.{Step, call, pair, Outcome, replied, moved}
 use Rattle.sheet.specs.declared.line.SetUp.{SetUp}

@@ -1,9 +1,9 @@
 -- A list of securities, judged entry by entry.
-use Rattle.std.proofs.Common.{◌≡◌, ℕ, ◌+◌, ◌-◌, ◌<◌, ◌≤◌, Bool, true, false, cond, not, ◌&&◌, eqb, ltb, leb, List, [], ◌∷◌, ◌++◌, length, get_or, take, drop, sym, refl, ap, ◌∙◌, arith}
+use Rattle.std.proofs.Common.{◌≡◌, ℕ, ◌+◌, ◌-◌, ◌<◌, ◌≤◌, Bool, true, false, ◌&&◌, List, [], ◌∷◌, ◌++◌, length, get_or, take, drop, sym, ap, ◌∙◌, arith}
 use Rattle.std.proofs.lemmas.List.{at_drop_more, at_drop_all, take_more}
 use Rattle.std.proofs.lemmas.Bool.{le-ltb, lt-ltb, le-leb, lt-leb, and_right, and_left, and_from, not_from_false, cond-false, cond-true}
 use Rattle.rules.specs.declared.security.ListEntry.{ListEntry}
-use Rattle.rules.specs.Listing.{sound_entry, all_sound, good_list, most_securities, Faulty}
+use Rattle.rules.specs.Listing.{sound_entry, all_sound, good_list, Faulty}
 
 abbrev blank : ListEntry
 blank = record { code = 0; class = 0; low = 0; high = 0 }

@@ -1,7 +1,7 @@
 -- Requests in range, with figures of their own width.
 --   EntryBounds e, CancelBounds c, PaymentBounds p   the highest that each figure can be
 --   cancelling c      the cancel c with its figures
-use Rattle.std.specs.Prelude.{ℕ, ◌≤◌}
+use Rattle.std.specs.Prelude.{◌≤◌}
 use Rattle.rules.specs.declared.request.Entry.{Entry}
 use Rattle.rules.specs.declared.request.CancelOrder.{CancelOrder}
 use Rattle.rules.specs.declared.request.Payment.{Payment}

@@ -15,12 +15,10 @@ use Rattle.market.specs.Figures.{times, within_limit}
 use Rattle.market.specs.Classes.{trades_at, reaches}
 use Rattle.tape.specs.declared.line.PaymentLine.{PaymentLine}
 use Rattle.tape.specs.Tapes.{begin_after}
-use Rattle.rules.specs.declared.event.Event.{Event}
 use Rattle.rules.specs.declared.event.Event.TheVariants.{PaidIn, DrawnOut}
 use Rattle.rules.specs.declared.event.Refused.{Refused}
 use Rattle.rules.specs.declared.event.Refused.TheVariants.{Floor, List as list_refused, Ledger}
 use Rattle.rules.specs.declared.order.Order.{Order}
-use Rattle.rules.specs.declared.order.Standing.{Standing}
 use Rattle.rules.specs.declared.request.Entry.{Entry}
 use Rattle.rules.specs.declared.request.CancelOrder.{CancelOrder}
 use Rattle.rules.specs.declared.request.Payment.{Payment}

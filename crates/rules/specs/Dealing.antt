@@ -4,8 +4,7 @@
 --   fits o x           one security at one price, from opposite sides
 --   decide ss t o      what follows once the order o stands behind the table t
 --   entry_events, cancel_events, close_events   the events of the accepted call
-use Rattle.std.specs.Prelude.{ℕ, suc, ◌-◌, Bool, true, false, cond, ◌&&◌, List, [], ◌∷◌, ◌++◌, length, Some, None, Option, ◌==◌, nat_lt}
-use Rattle.market.specs.declared.class.Class.{Class}
+use Rattle.std.specs.Prelude.{ℕ, suc, ◌-◌, Bool, true, false, cond, ◌&&◌, List, [], ◌∷◌, length, Some, None, Option, ◌==◌, nat_lt}
 use Rattle.market.specs.declared.kinds.Side.{Side}
 use Rattle.market.specs.declared.kinds.Side.TheVariants.{Buy, Sell}
 use Rattle.market.specs.declared.kinds.OrderKind.{OrderKind}

@@ -5,7 +5,7 @@
 --   listed es       the securities that a list without fault gives
 --   find_listed ss c   the security of the code c, if it is listed
 --   quoted s p      whether the price p may be asked for the security s
-use Rattle.std.specs.Prelude.{◌≡◌, ℕ, Bool, true, false, cond, not, ◌&&◌, ◌||◌, List, [], ◌∷◌, ◌++◌, length, take, Some, None, Option, MatchOption, ◌==◌, nat_le, nat_lt, slice_index_or}
+use Rattle.std.specs.Prelude.{◌≡◌, ℕ, Bool, true, false, cond, not, ◌&&◌, ◌||◌, List, [], ◌∷◌, ◌++◌, length, take, Some, None, Option, ◌==◌, nat_le, nat_lt, slice_index_or}
 use Rattle.market.specs.declared.class.Class.{Class}
 use Rattle.market.specs.declared.class.Class.TheVariants.{Bond}
 use Rattle.market.specs.declared.price.Price.{Price}

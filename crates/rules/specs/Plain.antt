@@ -4,7 +4,7 @@
 --   Plain            an order of the plain day: the order, and how much of it is live
 --   plain_after d a  the day after the accepted act a
 --   plain_day        the day after a list of acts, of which some were accepted
-use Rattle.std.specs.Prelude.{ℕ, ◌-◌, Bool, true, false, cond, ◌&&◌, eqb, ltb, leb, List, [], ◌∷◌, ◌++◌, map, Some, None, Option}
+use Rattle.std.specs.Prelude.{ℕ, ◌-◌, Bool, true, false, cond, List, [], ◌∷◌, ◌++◌}
 use Rattle.market.specs.declared.kinds.OrderKind.{OrderKind}
 use Rattle.market.specs.declared.kinds.OrderKind.TheVariants.{Intention, FirmQuote, Negotiated, Click}
 use Rattle.market.specs.Figures.{quantity}

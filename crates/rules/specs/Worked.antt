@@ -24,7 +24,7 @@ use Rattle.rules.specs.State.{State}
 use Rattle.rules.specs.Checks.{order_for}
 use Rattle.rules.specs.Dealing.{entry_events}
 use Rattle.rules.specs.Calls.{enter_answer}
-use Rattle.rules.specs.Plain.{Day, plain_entry}
+use Rattle.rules.specs.Plain.{plain_entry}
 
 abbrev pub rich : Book
 rich a i = record { is_open = true; free = 1000000000000000; held = 0 }

@@ -1,15 +1,14 @@
 -- A run of calls is a run of steps, and so has the law of whole runs.
-use Rattle.std.proofs.Common.{◌≡◌, List, [], ◌∷◌, map, Ok, Err, Result, sym, refl, ap, ◌∙◌, subst}
+use Rattle.std.proofs.Common.{◌≡◌, List, [], ◌∷◌, map, sym, ap, subst}
 use Rattle.ledger.specs.Books.{Book, Room, Lawful}
 use Rattle.tape.specs.Tapes.{Contents}
-use Rattle.rules.specs.Plain.{Act}
 use Rattle.rules.specs.Replies.{Reply, left_by, accepted}
 use Rattle.rules.specs.State.{State, new_floor}
-use Rattle.rules.specs.Steps.{Step, call, Outcome, replied, Desk, leaves, Ran}
+use Rattle.rules.specs.Steps.{Desk, Ran}
 use Rattle.whole_runs.specs.Law.{Law, new_desk}
 use Rattle.whole_runs.proofs.Runs.{lawful_runs}
 use Rattle.runs.specs.declared.call.Call.{Call}
-use Rattle.runs.specs.Acts.{act_of, step_of, steps_of, outcomes_of, no_sharing}
+use Rattle.runs.specs.Acts.{act_of, steps_of, outcomes_of, no_sharing}
 use Rattle.runs.proofs.Told.{Told}
 
 abbrev at_desk : State → Room → Desk

@@ -1,5 +1,5 @@
 -- Figures that are spelt in the text are read.
-use Rattle.std.proofs.Common.{◌≡◌, ℕ, suc, ◌+◌, true, false, ◌&&◌, eqb, leb, ◌⊎◌, List, [], ◌∷◌, ◌++◌, length, Some, None, Ok, Err, sym, refl, ap, ◌∙◌, ⊎_elim, append_assoc, append-nil, arith}
+use Rattle.std.proofs.Common.{◌≡◌, ℕ, suc, ◌+◌, true, false, ◌&&◌, eqb, leb, List, [], ◌∷◌, ◌++◌, length, Some, None, Ok, Err, sym, refl, ap, ◌∙◌, ⊎_elim, append_assoc, append-nil, arith}
 use Rattle.std.proofs.lemmas.Bool.{leb-true, ne_eqb, cases_Bool, cond-false, and_parts}
 use Rattle.sheet_text.specs.Cuts.{before, onward}
 use Rattle.sheet_text.specs.Figures.{is_digit, all_digits, decimal, figure}

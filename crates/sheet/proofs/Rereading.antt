@@ -1,5 +1,5 @@
 -- The law of `Only`: whatever a line writes is what it says.
-use Rattle.std.proofs.Common.{◌≡◌, ℕ, true, false, eqb, ◌⊎◌, List, [], ◌∷◌, length, Some, sym, refl, ap, ◌∙◌, subst, ⊎_elim, arith}
+use Rattle.std.proofs.Common.{◌≡◌, ℕ, true, false, eqb, List, [], ◌∷◌, length, Some, sym, refl, ap, ◌∙◌, subst, ⊎_elim, arith}
 use Rattle.std.proofs.lemmas.Bool.{cond-true}
 use Rattle.market.specs.declared.kinds.Side.{Side}
 use Rattle.market.specs.declared.kinds.Side.TheVariants.{Buy, Sell}

@@ -1,5 +1,5 @@
 -- The desk that the run begins with, and the bytes at the end.
-use Rattle.std.proofs.Common.{◌≡◌, ℕ, ◌+◌, ◌*◌, List, [], length, IfOk, Ok, Err, vec_items, vec_len, Result, Vec, ap, ◌∙◌, subst}
+use Rattle.std.proofs.Common.{◌≡◌, ℕ, ◌+◌, ◌*◌, List, [], IfOk, Ok, Err, vec_items, Result, Vec, ap, ◌∙◌, subst}
 use Rattle.std.specs.declared.alloc.Global.{Global}
 use Rattle.ledger.specs.Books.{Book, Room}
 use Rattle.line_ledger.specs.Opening.{no_pairs, room_of}

@@ -3,7 +3,7 @@
 --                       with room for so many lines
 --   share               money shares places with money alone, the other items with each other
 --   Taped d t bs        bs are the bytes of the tape, lines and trailer, once the sheet t has been run from the desk d on
-use Rattle.std.specs.Prelude.{◌≡◌, ℕ, ◌+◌, ◌*◌, true, List, [], Result, Vec}
+use Rattle.std.specs.Prelude.{◌≡◌, ℕ, ◌+◌, ◌*◌, List, [], Result, Vec}
 use Rattle.std.specs.declared.alloc.Global.{Global}
 use Rattle.ledger.specs.Opening.{Sharing}
 use Rattle.line_ledger.specs.Opening.{no_pairs, room_of}

@@ -4,9 +4,8 @@
 --   noted_line ps l   ps with the pairs that the line l names: an order's account with its security,
 --                     then with money; a payment's account with its item
 --   pairs ls          the pairs that lines name, each once, in the order of first appearance
-use Rattle.std.specs.Prelude.{ℕ, Bool, true, false, cond, ◌&&◌, ◌||◌, List, [], ◌∷◌, ◌++◌, fold, ◌==◌}
+use Rattle.std.specs.Prelude.{ℕ, Bool, true, false, cond, ◌&&◌, List, [], ◌∷◌, ◌++◌, fold, ◌==◌}
 use Rattle.tape.specs.declared.line.OrderLine.{OrderLine}
-use Rattle.tape.specs.declared.line.PaymentLine.{PaymentLine}
 use Rattle.tape.specs.declared.line.Line.{Line}
 use Rattle.tape.specs.declared.line.Line.TheVariants.{Entry, Deal, Cancel, PaidIn, DrawnOut}
 use Rattle.statement.specs.declared.pairs.Pair.{Pair}

@@ -1,7 +1,7 @@
 -- Each move at the bank and at the depository.
 use Rattle.std.proofs.Common.{◌≡◌, ℕ, ◌+◌}
 use Rattle.market.specs.declared.refusal.Refusal.TheVariants.{FreeTooSmall, MoreThanHeld, TotalTooLarge}
-use Rattle.ledger.specs.Books.{Figures, Book, total, limit}
+use Rattle.ledger.specs.Books.{Book, limit}
 use Rattle.ledger.specs.Moves.{checked, to_held, to_free, more_free, less_free, hold_answer, hold_after, release_answer, release_after, pay_in_answer, pay_in_after, draw_out_answer, draw_out_after}
 use Rattle.two_house.specs.Houses.{both}
 use Rattle.two_house.specs.Sides.{Verdict, Alike, in_bank, in_depository}

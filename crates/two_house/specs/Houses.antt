@@ -2,7 +2,7 @@
 --   both m d        the book of the two: item 0 is of the bank's book m, every other of the depository's d
 --   both_room x y   the same of the room for pairs
 --   both_share x y  which items share places: of item 0 by the bank's x, of every other by the depository's y
-use Rattle.std.specs.Prelude.{ℕ, cond, not, ◌&&◌, ◌==◌}
+use Rattle.std.specs.Prelude.{cond, not, ◌&&◌, ◌==◌}
 use Rattle.ledger.specs.Books.{Book, Room}
 use Rattle.ledger.specs.Opening.{Sharing}
 

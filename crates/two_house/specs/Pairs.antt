@@ -1,10 +1,10 @@
 -- A pair opened at one of the two is that pair opened of both.
 use Rattle.std.specs.Prelude.{◌≡◌, ℕ, ◌-◌, Bool, true, false, cond, not, ◌&&◌, Ok, Err, ◌==◌, ◌≢◌, nat_lt, refl}
-use Rattle.std.proofs.Common.{sym, ap, subst, ◌∙◌}
+use Rattle.std.proofs.Common.{sym}
 use Rattle.std.proofs.Math.Path.{fun_ext}
 use Rattle.std.proofs.lemmas.Bool.{eq-eqb, ne_eqb, true≢false, false≢true, cond-true, cond-false}
 use Rattle.market.specs.declared.refusal.Refusal.TheVariants.{OutOfRange, PairOpen, NoLedgerLine}
-use Rattle.ledger.specs.Books.{Figures, Book, Room, in_range}
+use Rattle.ledger.specs.Books.{Book, Room, in_range}
 use Rattle.ledger.specs.Moves.{Answer, edit}
 use Rattle.ledger.specs.Opening.{Sharing, new_pair, open_answer, open_after, room_after}
 use Rattle.two_house.specs.Houses.{both, both_room, both_share}

@@ -1,12 +1,12 @@
 -- The book of two: one house's book wherever the item is its own.
-use Rattle.std.specs.Prelude.{◌≡◌, ℕ, ◌<◌, ◌≤◌, Bool, true, false, cond, ◌&&◌, ltb, ◌⊎◌, ◌==◌, ◌≢◌, nat_lt, refl}
-use Rattle.std.proofs.Common.{sym, ap, subst, ◌∙◌, ⊎_elim, arith}
+use Rattle.std.specs.Prelude.{◌≡◌, ℕ, ◌≤◌, Bool, true, false, ◌&&◌, ltb, ◌==◌, ◌≢◌, nat_lt, refl}
+use Rattle.std.proofs.Common.{sym, ap, subst, ⊎_elim}
 use Rattle.std.proofs.Math.Path.{fun_ext}
 use Rattle.std.proofs.lemmas.Bool.{cases_eq, eq-eqb, ne_eqb, cond-true, cond-false}
 use Rattle.ledger.specs.Ranging.{sum_to, any_to}
-use Rattle.ledger.specs.Books.{Figures, Book, Room, worth, total, accounts_end, items_end, limit, in_range, nothing, Lawful}
+use Rattle.ledger.specs.Books.{Figures, Book, worth, total, accounts_end, items_end, limit, in_range, nothing, Lawful}
 use Rattle.ledger.specs.Questions.{held_in, any_money, any_security}
-use Rattle.two_house.specs.Houses.{both, both_room}
+use Rattle.two_house.specs.Houses.{both}
 
 pub money : (m d : Book) (a i : ℕ) → i ≡ 0 → both m d a i ≡ m a i
 unfolding both

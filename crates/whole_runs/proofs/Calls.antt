@@ -1,5 +1,5 @@
 -- The other five calls, and the opening of a pair: all is granted, the table is the plain day's, the floor stands.
-use Rattle.std.proofs.Common.{◌≡◌, ℕ, suc, ◌+◌, ◌-◌, ◌<◌, ◌≤◌, Bool, true, false, cond, not, ◌&&◌, ◌||◌, eqb, ltb, leb, List, [], ◌∷◌, ◌++◌, map, length, set, Some, None, Ok, Err, Option, sym, refl, ap, ◌∙◌, subst, arith}
+use Rattle.std.proofs.Common.{◌≡◌, ℕ, suc, ◌+◌, ◌≤◌, Bool, true, false, cond, not, ◌&&◌, eqb, ltb, leb, List, [], ◌∷◌, ◌++◌, length, set, Some, None, Ok, Err, Option, sym, refl, ap, ◌∙◌, subst, arith}
 use Rattle.std.proofs.lemmas.List.{length_push, length-append, length-set}
 use Rattle.std.proofs.lemmas.Bool.{and_parts, and_from, not-true, eqb-true, leb-true, cond_both, cond-true}
 use Rattle.ledger.specs.Books.{Book, Lawful}
@@ -14,10 +14,10 @@ use Rattle.market.specs.Kinds.{sort_number, sort_of_kind}
 use Rattle.market.specs.Ranges.{admits}
 use Rattle.tape.specs.declared.line.Line.{Line}
 use Rattle.tape.specs.Lines.{payment_in_range}
-use Rattle.tape.specs.Tapes.{Contents, begin_answer, begin_after}
+use Rattle.tape.specs.Tapes.{Contents, begin_after}
 use Rattle.rules.specs.declared.event.Event.{Event}
 use Rattle.rules.specs.declared.event.Event.TheVariants.{Entered, Dealt, Cancelled, PaidIn, DrawnOut}
-use Rattle.rules.specs.declared.event.Refused.TheVariants.{Floor, List as list_refused}
+use Rattle.rules.specs.declared.event.Refused.TheVariants.{List as list_refused}
 use Rattle.rules.specs.declared.order.Agreement.{Agreement}
 use Rattle.rules.specs.declared.order.Name.{Name}
 use Rattle.rules.specs.declared.order.Standing.{Standing}
@@ -26,20 +26,19 @@ use Rattle.rules.specs.declared.request.Payment.{Payment}
 use Rattle.rules.specs.declared.security.ListEntry.{ListEntry}
 use Rattle.rules.specs.declared.security.Security.{Security}
 use Rattle.rules.specs.State.{State, free_lines}
-use Rattle.rules.specs.Orders.{order_at, is_live, live_count, first_place, with_live}
+use Rattle.rules.specs.Orders.{order_at, is_live, live_count, with_live}
 use Rattle.rules.specs.Listing.{good_list, listed}
-use Rattle.rules.specs.Checks.{cancel_in_range, payment_in_range as payment_figures, payment_allowed, serial_used, of_unit, answers_to}
+use Rattle.rules.specs.Checks.{cancel_in_range, payment_in_range as payment_figures, payment_allowed, serial_used, answers_to}
 use Rattle.rules.specs.Dealing.{cancel_events, close_from, close_events, close_time}
 use Rattle.rules.specs.Effects.{lines_of, effect, effects}
-use Rattle.rules.specs.Calls.{Answer, unless, any_held, open_answer, opened, found_answer, target_of, cancel_answer, with_cancel, by_ledger, paying_answer, pay_in_reply, draw_out_reply, payment_line, close_answer, shut}
-use Rattle.rules.specs.Plain.{Act, opens, cancels, pays_in, draws_out, closes, leave, nothing}
+use Rattle.rules.specs.Calls.{Answer, any_held, open_answer, found_answer, target_of, cancel_answer, with_cancel, paying_answer, pay_in_reply, draw_out_reply, payment_line, shut}
+use Rattle.rules.specs.Plain.{opens, cancels, pays_in, draws_out, closes, leave, nothing}
 use Rattle.laws.specs.Accepted.{day}
 use Rattle.laws.specs.Ending.{StrictAll}
 use Rattle.laws.specs.Days.{Day, step, run, ValidAll}
 use Rattle.laws.specs.Sound.{Distinct}
-use Rattle.laws.specs.Reserves.{load}
 use Rattle.laws.specs.Single.{KeptSingle}
-use Rattle.laws.specs.Plainly.{One, tables}
+use Rattle.laws.specs.Plainly.{One}
 use Rattle.laws.specs.Sized.{LiveSized, all_sized}
 use Rattle.laws.specs.Agreed.{Agreed, agreements}
 use Rattle.laws.proofs.Accepting.{not_ok, passed, cancels_valid, payments_in_valid, payments_out_valid, closes_valid}
@@ -48,8 +47,7 @@ use Rattle.laws.proofs.Loading.{load_cancelled}
 use Rattle.laws.proofs.Plainness.{cancels_plain, closes_plain}
 use Rattle.laws.proofs.Sizing.{sized_leave, sized_nothing, sized_step}
 use Rattle.laws.proofs.Agreeing.{agreed_beside}
-use Rattle.whole_runs.specs.Granting.{Granted, GrantedAll}
-use Rattle.whole_runs.specs.Law.{plainly}
+use Rattle.whole_runs.specs.Granting.{GrantedAll}
 use Rattle.whole_runs.proofs.Good.{Good}
 use Rattle.whole_runs.proofs.Going.{Going, ReadyAll, WentAll, went_all, effects_orders, effects_securities, effects_agreed}
 use Rattle.whole_runs.proofs.Entries.{Stands, Did, same_day}

@@ -1,5 +1,5 @@
 -- An accepted entry: all is granted, the table is the plain day's, and the floor stands.
-use Rattle.std.proofs.Common.{◌≡◌, ℕ, ◌+◌, ◌-◌, ◌<◌, ◌≤◌, Bool, true, false, cond, ◌&&◌, ltb, leb, List, [], ◌∷◌, ◌++◌, length, Ok, count_by, sym, refl, ap, ◌∙◌, subst, arith}
+use Rattle.std.proofs.Common.{◌≡◌, ℕ, ◌+◌, ◌-◌, ◌<◌, ◌≤◌, true, leb, List, length, Ok, count_by, sym, refl, ap, ◌∙◌, subst, arith}
 use Rattle.std.proofs.lemmas.List.{length_push}
 use Rattle.std.proofs.lemmas.Bool.{and_parts, and_from, le-leb}
 use Rattle.ledger.specs.Books.{Book}
@@ -9,7 +9,6 @@ use Rattle.market.specs.declared.kinds.Sort.TheVariants.{Intention, FirmQuote as
 use Rattle.market.specs.declared.ranges.Figure.TheVariants.{Unit, Serial, Account, SecurityCode, Quantity, Price, Time, AgreementNumber}
 use Rattle.market.specs.Figures.{quantity, price, times, within_limit}
 use Rattle.market.specs.Ranges.{admits}
-use Rattle.tape.specs.Lines.{order_in_range}
 use Rattle.rules.specs.declared.event.Event.{Event}
 use Rattle.rules.specs.declared.event.Event.TheVariants.{Entered}
 use Rattle.rules.specs.declared.event.Follow.{Follow}
@@ -19,22 +18,20 @@ use Rattle.rules.specs.declared.order.Order.{Order}
 use Rattle.rules.specs.declared.order.Standing.{Standing}
 use Rattle.rules.specs.declared.request.Entry.{Entry}
 use Rattle.rules.specs.declared.security.Security.{Security}
-use Rattle.rules.specs.State.{State, free_places, free_lines}
-use Rattle.rules.specs.Orders.{live_count}
+use Rattle.rules.specs.State.{State}
 use Rattle.rules.specs.Checks.{is_kind, names_partner, entry_in_range, number_for, order_for}
 use Rattle.rules.specs.Dealing.{decide, follow_events, entry_events}
-use Rattle.rules.specs.Effects.{order_line, effect, effects}
-use Rattle.rules.specs.Calls.{enter_answer, entered}
+use Rattle.rules.specs.Effects.{effect, effects}
+use Rattle.rules.specs.Calls.{enter_answer}
 use Rattle.rules.specs.Plain.{Day, Act, enters, plain_entry, plain_after}
 use Rattle.rules.specs.Replies.{accepted}
 use Rattle.laws.specs.Accepted.{day}
-use Rattle.laws.specs.Days.{Day as Trading, run, ValidAll}
+use Rattle.laws.specs.Days.{Day as Trading, run}
 use Rattle.laws.specs.Reserves.{load}
 use Rattle.laws.specs.Single.{KeptSingle}
-use Rattle.laws.specs.Plainly.{tables}
 use Rattle.laws.specs.Sized.{LiveSized, all_sized}
 use Rattle.laws.specs.Agreed.{Agreed}
-use Rattle.laws.proofs.Accepting.{Listed, EntryPassed, entry_passed, entries_strict}
+use Rattle.laws.proofs.Accepting.{entry_passed, entries_strict}
 use Rattle.laws.proofs.Loading.{load_entered}
 use Rattle.laws.proofs.Plainness.{entries_plain}
 use Rattle.laws.proofs.Singly.{searches_single}
@@ -43,7 +40,7 @@ use Rattle.laws.proofs.Sizing.{entries_sized}
 use Rattle.laws.proofs.Agreeing.{entries_agreed}
 use Rattle.whole_runs.specs.Granting.{GrantedAct}
 use Rattle.whole_runs.specs.Law.{plainly}
-use Rattle.whole_runs.proofs.Good.{Good, Writable, Spare}
+use Rattle.whole_runs.proofs.Good.{Writable, Spare}
 use Rattle.whole_runs.proofs.Going.{Going, went, ReadyAll, went_all, effects_orders, effects_securities, effects_agreed}
 
 -- a floor between calls

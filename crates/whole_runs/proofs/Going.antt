@@ -1,11 +1,10 @@
 -- A floor between any two events: what an event leaves is what the day's step says, and all is granted.
-use Rattle.std.proofs.Common.{◌≡◌, ℕ, suc, ◌+◌, ◌<◌, ◌≤◌, Bool, true, false, cond, ◌&&◌, ltb, leb, List, [], ◌∷◌, ◌++◌, length, Ok, Err, sym, refl, ap, ◌∙◌, subst, arith}
-use Rattle.std.proofs.lemmas.List.{length_push, length-append}
+use Rattle.std.proofs.Common.{◌≡◌, ℕ, ◌+◌, ◌<◌, ◌≤◌, Bool, true, cond, ltb, leb, List, [], ◌∷◌, length, Ok, Err, sym, refl, ap, ◌∙◌, subst, arith}
+use Rattle.std.proofs.lemmas.List.{length_push}
 use Rattle.std.proofs.lemmas.List.Sums.{get_or-le-sum_by}
 use Rattle.std.proofs.lemmas.Bool.{and_parts, and_from, le-leb, lt-ltb, cond-true}
 use Rattle.ledger.specs.Books.{Book}
-use Rattle.market.specs.declared.quantity.Quantity.{Quantity}
-use Rattle.market.specs.declared.refusal.Refusal.TheVariants.{TapeFull, OutOfRange}
+use Rattle.market.specs.declared.refusal.Refusal.TheVariants.{TapeFull}
 use Rattle.tape.specs.declared.line.Line.{Line}
 use Rattle.tape.specs.Lines.{in_range, all_in_range}
 use Rattle.tape.specs.Tapes.{Contents, has_room, with_line, append_answer, append_after}
@@ -14,12 +13,10 @@ use Rattle.rules.specs.declared.event.Event.TheVariants.{Entered, Dealt, Cancell
 use Rattle.rules.specs.declared.order.Standing.{Standing}
 use Rattle.rules.specs.State.{State}
 use Rattle.rules.specs.Orders.{order_at, no_one, is_live, live_count}
-use Rattle.rules.specs.Effects.{order_line, lines_of, written, orders_after, book_after, deals_after, effect, effects}
+use Rattle.rules.specs.Effects.{lines_of, orders_after, book_after, deals_after, effect, effects}
 use Rattle.laws.specs.Accepted.{day}
 use Rattle.laws.specs.Ending.{Strict, StrictAll}
-use Rattle.laws.specs.Days.{Day, step, run, Valid, ValidAll}
-use Rattle.laws.specs.Fitting.{Fit, with_lines}
-use Rattle.laws.specs.Reserves.{load}
+use Rattle.laws.specs.Days.{Day, step, run, Valid}
 use Rattle.laws.specs.Plainly.{tables}
 use Rattle.laws.specs.Agreed.{agreements}
 use Rattle.laws.proofs.Stepping.{moves_granted}

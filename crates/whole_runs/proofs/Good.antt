@@ -1,20 +1,16 @@
 -- What holds of a day between any two events, and that a valid event with room to spare keeps it.
-use Rattle.std.proofs.Common.{◌≡◌, ℕ, ◌+◌, ◌-◌, ◌<◌, ◌≤◌, Bool, true, false, cond, ◌&&◌, ltb, leb, ◌⊎◌, List, [], ◌∷◌, ◌++◌, length, set, sym, refl, ap, ◌∙◌, subst, ⊎_elim, arith}
+use Rattle.std.proofs.Common.{◌≡◌, ℕ, ◌+◌, ◌-◌, ◌<◌, ◌≤◌, Bool, true, cond, List, [], ◌∷◌, ◌++◌, length, set, sym, ap, ◌∙◌, subst, ⊎_elim, arith}
 use Rattle.std.proofs.lemmas.List.{length-append, length_push, length-set, get_or_append_left, get_or_push, get_or-set_same, get_or-set_other}
-use Rattle.std.proofs.lemmas.List.Sums.{sum_by_push}
-use Rattle.std.proofs.lemmas.Bool.{and_from, le-leb, le-ltb, cases_lt, cases_eq}
+use Rattle.std.proofs.lemmas.Bool.{le-ltb, cases_lt, cases_eq}
 use Rattle.ledger.specs.Books.{Book}
-use Rattle.market.specs.declared.ranges.Figure.TheVariants.{Time, DealNumber}
-use Rattle.market.specs.declared.quantity.Quantity.{Quantity}
+use Rattle.market.specs.declared.ranges.Figure.TheVariants.{Time}
 use Rattle.market.specs.Ranges.{admits}
-use Rattle.tape.specs.declared.line.Line.{Line}
-use Rattle.tape.specs.Lines.{order_in_range, payment_in_range, in_range, all_in_range}
+use Rattle.tape.specs.Lines.{order_in_range, payment_in_range}
 use Rattle.rules.specs.declared.event.Event.{Event}
 use Rattle.rules.specs.declared.event.Event.TheVariants.{Entered, Dealt, Cancelled, PaidIn, DrawnOut}
-use Rattle.rules.specs.declared.order.Order.{Order}
 use Rattle.rules.specs.declared.order.Standing.{Standing}
 use Rattle.rules.specs.Orders.{order_at, no_one, live_count, less_live, with_live}
-use Rattle.rules.specs.Effects.{order_line, lines_of, orders_after}
+use Rattle.rules.specs.Effects.{order_line, lines_of}
 use Rattle.laws.specs.Ending.{Strict}
 use Rattle.laws.specs.Days.{Day, step, Valid}
 use Rattle.laws.specs.Sound.{Sound}
@@ -27,7 +23,6 @@ use Rattle.laws.proofs.Pairing.{deals_paired}
 use Rattle.laws.proofs.Firstly.{entries_first}
 use Rattle.laws.proofs.Loading.{load_entered, load_cancelled, load_dealt}
 use Rattle.laws.proofs.Naming.{same_two}
-use Rattle.laws.proofs.Taking.{part_in_range}
 
 abbrev pub AllFit : List Standing → Type 0
 AllFit t = (k : ℕ) → k < length t → Fit (order_at t k)

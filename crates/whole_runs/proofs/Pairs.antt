@@ -1,5 +1,5 @@
 -- A pair opened with nothing, between any two calls, keeps all that a floor keeps; so does one that is refused.
-use Rattle.std.proofs.Common.{◌≡◌, ℕ, ◌+◌, ◌∙◌, arith}
+use Rattle.std.proofs.Common.{ℕ, ◌∙◌, arith}
 use Rattle.ledger.specs.Books.{Book}
 use Rattle.ledger.proofs.Pairs.{opened_same, opened_lawful, stays_open}
 use Rattle.rules.specs.State.{State}

@@ -1,31 +1,24 @@
 -- The law of whole runs, by an induction over the steps.
-use Rattle.std.proofs.Common.{◌≡◌, ℕ, ◌+◌, ◌<◌, ◌≤◌, Bool, true, false, cond, not, List, [], ◌∷◌, ◌++◌, length, IfSome, is_ok, Some, None, Ok, Err, Option, Result, sym, refl, ap, ◌∙◌, subst, arith}
+use Rattle.std.proofs.Common.{◌≡◌, ℕ, ◌≤◌, false, List, [], ◌∷◌, length, IfSome, Some, None, Ok, Err, Option, sym, refl, ap, ◌∙◌, subst, arith}
 use Rattle.std.proofs.lemmas.Bool.{both_ways}
 use Rattle.ledger.specs.Books.{Book, Lawful}
 use Rattle.ledger.specs.Opening.{Sharing}
 use Rattle.ledger.proofs.Pairs.{opened_lawful}
-use Rattle.tape.specs.Tapes.{Contents}
 use Rattle.market.specs.declared.refusal.Refusal.TheVariants.{DayNotOpen}
-use Rattle.rules.specs.declared.event.Refused.{Refused}
-use Rattle.rules.specs.declared.order.Standing.{Standing}
-use Rattle.rules.specs.declared.request.Entry.{Entry}
-use Rattle.rules.specs.declared.request.CancelOrder.{CancelOrder}
-use Rattle.rules.specs.declared.request.Payment.{Payment}
-use Rattle.rules.specs.State.{State, new_floor}
-use Rattle.rules.specs.Orders.{order_at}
-use Rattle.rules.specs.Calls.{Answer, unless, open_answer, enter_answer, entered, cancel_answer, cancelled, pay_in_reply, paid_in, draw_out_reply, drawn_out, close_answer, closed}
+use Rattle.rules.specs.State.{State}
+use Rattle.rules.specs.Calls.{Answer, unless}
 use Rattle.rules.specs.Replies.{counted, accepted, Replied}
 use Rattle.rules.specs.Steps.{Step, call, pair, Outcome, replied, moved, Desk, pair_opened, leaves, Ran}
 use Rattle.rules.specs.Plain.{Day, Act, opens, enters, cancels, pays_in, draws_out, closes, plain_after, plain_day}
 use Rattle.laws.specs.Accepted.{day}
-use Rattle.laws.proofs.Accepting.{not_ok, passed}
+use Rattle.laws.proofs.Accepting.{passed}
 use Rattle.laws.proofs.Stepping.{orders_whole}
 use Rattle.laws.proofs.Firstly.{orders_first}
 use Rattle.laws.proofs.Singly.{searches_single}
 use Rattle.laws.proofs.Following.{numbers_law}
 use Rattle.whole_runs.specs.Granting.{GrantedAct}
-use Rattle.whole_runs.specs.Steps.{GrantedStep, GrantedRun, acts_in, verdicts, begun_by, begun, opening_book}
-use Rattle.whole_runs.specs.Law.{Kept, Law, LawfulRuns, plainly, no_day, new_desk}
+use Rattle.whole_runs.specs.Steps.{GrantedRun, acts_in, verdicts, begun_by, opening_book}
+use Rattle.whole_runs.specs.Law.{Kept, LawfulRuns, plainly, new_desk}
 use Rattle.whole_runs.proofs.Entries.{Stands, Did, entry_did}
 use Rattle.whole_runs.proofs.Calls.{open_did, cancel_did, pay_in_did, draw_out_did, close_did}
 use Rattle.whole_runs.proofs.Pairs.{pair_stands}

@@ -3,7 +3,7 @@
 --   Granted s e       so it is with the lines of the event e, and the ledger grants its moves
 --   GrantedAll s es  so it is with each event of a list, after those before it
 --   GrantedAct s a   so it is inside the act a, if it is accepted
-use Rattle.std.specs.Prelude.{◌≡◌, ℕ, ◌+◌, List, [], ◌∷◌, Ok}
+use Rattle.std.specs.Prelude.{◌≡◌, ◌+◌, List, [], ◌∷◌, Ok}
 use Rattle.tape.specs.declared.line.Line.{Line}
 use Rattle.tape.specs.Tapes.{Contents, begin_answer, append_answer, append_after}
 use Rattle.rules.specs.declared.event.Event.{Event}

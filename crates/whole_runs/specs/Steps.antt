@@ -5,7 +5,7 @@
 --   verdicts ks os          which of them were accepted
 --   begun s k o b           the book as the last accepted opening began, once the step k has had the outcome o
 --   opening_book share d b ks os   the same for a run
-use Rattle.std.specs.Prelude.{Bool, true, false, List, [], ◌∷◌, is_ok, Some, None, Ok, Err, Option}
+use Rattle.std.specs.Prelude.{Bool, List, [], ◌∷◌, is_ok, Some, Ok, Err, Option}
 use Rattle.ledger.specs.Books.{Book}
 use Rattle.ledger.specs.Opening.{Sharing}
 use Rattle.rules.specs.State.{State}

@@ -1,7 +1,6 @@
-use Rattle.std.proofs.Common.{◌≡◌, vec_len}
+use Rattle.std.proofs.Common.{vec_len}
 use Rattle.line_ledger.specs.Lines.{line_book, line_room}
 use Rattle.tape.specs.Records.{recorded}
-use Rattle.floor.specs.View.{desk}
 use Rattle.whole_runs.specs.Law.{new_desk}
 use Rattle.sheet_run.specs.Printing.{begun}
 use Rattle.sheet_run.proofs.Begun.{begins, prints}

@@ -1,4 +1,4 @@
-use Rattle.std.proofs.Common.{◌≡◌, vec_len, ap, ◌∙◌}
+use Rattle.std.proofs.Common.{vec_len, ap, ◌∙◌}
 use Rattle.ledger.specs.Books.{Book, Room}
 use Rattle.layout.specs.Bytes.{tape_bytes}
 use Rattle.byte_tape.specs.declared.byte_tape.ByteTape.{ByteTape}

@@ -1,4 +1,4 @@
-use Rattle.std.proofs.Common.{◌≡◌, ℕ, List, ◌++◌, string_bytes, ap, ◌∙◌}
+use Rattle.std.proofs.Common.{ℕ, List, ◌++◌, string_bytes, ap, ◌∙◌}
 use Rattle.answers.proofs.Turning.{rows_turn, rows_done}
 use Rattle.answers.proofs.rows.push_rows.Goals as goal
 

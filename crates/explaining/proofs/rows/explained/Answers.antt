@@ -1,5 +1,4 @@
-use Rattle.std.proofs.Common.{◌≡◌, ℕ, List, ◌++◌, vec_items, sym, ap, ◌∙◌, append-nil}
-use Rattle.explaining.specs.Notes.{explained}
+use Rattle.std.proofs.Common.{vec_items, ◌∙◌}
 use Rattle.explaining.proofs.Turning.{explained_turn, less_left}
 use Rattle.explaining.proofs.rows.explained.Goals as goal
 

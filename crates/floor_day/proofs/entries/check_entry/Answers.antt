@@ -1,4 +1,4 @@
-use Rattle.std.proofs.Common.{◌≡◌, sym, refl, ◌∙◌}
+use Rattle.std.proofs.Common.{refl, ◌∙◌}
 use Rattle.std.proofs.lemmas.Bool.{false≢true}
 use Rattle.floor_day.specs.Days.{state_of}
 use Rattle.floor_day.proofs.Answering.{entry_found, listed_is, refused_check}

@@ -1,4 +1,4 @@
-use Rattle.std.proofs.Common.{◌≡◌, ◌<◌, sym, refl, arith}
+use Rattle.std.proofs.Common.{◌<◌, sym, refl, arith}
 use Rattle.ledger.proofs.Pairs.{same_none, answered_outside, left_outside}
 use Rattle.ledger.proofs.opening.opened_for.Goals as goal
 

@@ -1,4 +1,4 @@
-use Rattle.std.proofs.Common.{◌≡◌, refl, arith}
+use Rattle.std.proofs.Common.{refl, arith}
 use Rattle.market.specs.declared.refusal.Refusal.TheVariants.{FreeTooSmall}
 use Rattle.ledger.specs.Books.{limit}
 use Rattle.ledger.specs.Moves.{to_held, hold_answer, hold_after}

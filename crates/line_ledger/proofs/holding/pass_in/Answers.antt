@@ -1,6 +1,6 @@
 use Rattle.std.proofs.Common.{arith}
 use Rattle.ledger.specs.Books.{limit}
-use Rattle.line_ledger.proofs.Writing.{Pair, passed, pass_fits, pass_no_giver, pass_no_taker, pass_short}
+use Rattle.line_ledger.proofs.Writing.{passed, pass_fits, pass_no_giver, pass_no_taker, pass_short}
 use Rattle.line_ledger.proofs.holding.pass_in.Goals as goal
 
 pub returns-in_default : goal.returns-in_default

@@ -1,4 +1,4 @@
-use Rattle.std.proofs.Common.{◌≡◌, refl, arith}
+use Rattle.std.proofs.Common.{refl, arith}
 use Rattle.market.specs.declared.refusal.Refusal.TheVariants.{MoreThanHeld}
 use Rattle.ledger.specs.Books.{limit}
 use Rattle.ledger.specs.Moves.{to_free, release_answer, release_after}

@@ -1,4 +1,4 @@
-use Rattle.std.proofs.Common.{◌≡◌, Bool, ◌&&◌, ap, ◌∙◌}
+use Rattle.std.proofs.Common.{Bool, ◌&&◌, ap, ◌∙◌}
 use Rattle.market.specs.Ranges.{admits}
 use Rattle.market.specs.declared.ranges.Figure.TheVariants.{Item}
 use Rattle.ledger.specs.Books.{in_range}

@@ -1,11 +1,10 @@
-use Rattle.std.proofs.Common.{◌≡◌, refl, arith}
+use Rattle.std.proofs.Common.{refl, arith}
 use Rattle.market.specs.declared.refusal.Refusal.TheVariants.{FreeTooSmall}
-use Rattle.ledger.specs.Books.{limit}
 use Rattle.ledger.specs.Moves.{less_free, draw_out_answer, draw_out_after}
 use Rattle.ledger.proofs.Keeping.{draw_fair}
 use Rattle.line_ledger.specs.Rows.{look}
 use Rattle.line_ledger.specs.Reading.{kept_lawful}
-use Rattle.line_ledger.proofs.Finding.{open_at, free_at, place_fits}
+use Rattle.line_ledger.proofs.Finding.{open_at, free_at}
 use Rattle.line_ledger.proofs.Writing.{not_found, short, written}
 use Rattle.line_ledger.proofs.paying.draw_out_in.Goals as goal
 

@@ -1,4 +1,4 @@
-use Rattle.std.proofs.Common.{◌≡◌, ◌+◌, ◌<◌, ◌≤◌, refl, arith}
+use Rattle.std.proofs.Common.{◌+◌, ◌<◌, ◌≤◌, refl, arith}
 use Rattle.market.specs.declared.refusal.Refusal.TheVariants.{TotalTooLarge}
 use Rattle.ledger.specs.Books.{limit, total}
 use Rattle.ledger.specs.Moves.{more_free, pay_in_answer, pay_in_after}

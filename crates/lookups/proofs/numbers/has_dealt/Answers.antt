@@ -1,4 +1,4 @@
-use Rattle.std.proofs.Common.{◌+◌, Bool, true, false, ◌||◌, drop, sym, ap, ◌∙◌}
+use Rattle.std.proofs.Common.{◌+◌, Bool, true, ◌||◌, drop, sym, ap, ◌∙◌}
 use Rattle.rules.specs.Checks.{has_dealt}
 use Rattle.lookups.proofs.Seeking.{goes_on, settled_at, ran_out}
 use Rattle.lookups.proofs.numbers.has_dealt.Goals as goal

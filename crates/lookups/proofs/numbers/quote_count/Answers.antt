@@ -1,4 +1,4 @@
-use Rattle.std.proofs.Common.{sym, ◌∙◌, arith}
+use Rattle.std.proofs.Common.{sym, ◌∙◌}
 use Rattle.market.specs.declared.kinds.OrderKind.TheVariants.{FirmQuote}
 use Rattle.rules.specs.Checks.{is_kind}
 use Rattle.lookups.proofs.Counting.{counts_one, counts_none, counted_all}

@@ -1,4 +1,4 @@
-use Rattle.std.proofs.Common.{sym, ◌∙◌, arith}
+use Rattle.std.proofs.Common.{sym, ◌∙◌}
 use Rattle.rules.specs.Orders.{is_live}
 use Rattle.lookups.proofs.Counting.{counts_one, counts_none, counted_all}
 use Rattle.lookups.proofs.orders.live_count.Goals as goal

@@ -1,4 +1,4 @@
-use Rattle.std.proofs.Common.{◌≡◌, List, ◌++◌, string_bytes, ap, ◌∙◌}
+use Rattle.std.proofs.Common.{List, ◌++◌, string_bytes, ap, ◌∙◌}
 use Rattle.std.specs.List.{flat_map}
 use Rattle.tape.specs.declared.line.Line.{Line}
 use Rattle.rules.specs.declared.order.Name.{Name}

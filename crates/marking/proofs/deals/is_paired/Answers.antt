@@ -1,8 +1,7 @@
-use Rattle.std.proofs.Common.{◌≡◌, ℕ, List, sym, ap, ◌∙◌}
+use Rattle.std.proofs.Common.{ℕ, List, sym, ap, ◌∙◌}
 use Rattle.market.specs.declared.kinds.Side.TheVariants.{Buy, Sell}
 use Rattle.tape.specs.declared.line.Line.{Line}
-use Rattle.tape.specs.declared.line.Line.TheVariants.{Deal}
-use Rattle.marking.specs.declared.deals.Asked.TheVariants.{Side, Like}
+use Rattle.marking.specs.declared.deals.Asked.TheVariants.{Side}
 use Rattle.marking.specs.Deals.{how_many, pair_of, line_paired}
 use Rattle.marking.proofs.deals.is_paired.Goals as goal
 

@@ -1,11 +1,11 @@
-use Rattle.std.proofs.Common.{◌≡◌, vec_items, sym, refl, ap, ◌∙◌}
+use Rattle.std.proofs.Common.{sym, ap, ◌∙◌}
 use Rattle.rules.specs.declared.request.Entry.{Entry}
 use Rattle.rules.specs.declared.request.CancelOrder.{CancelOrder}
 use Rattle.rules.specs.Plain.{enters, cancels}
 use Rattle.rules.specs.Steps.{call}
-use Rattle.sheet.specs.Told.{Told, says}
+use Rattle.sheet.specs.Told.{says}
 use Rattle.floor.specs.View.{view}
-use Rattle.practice.specs.Tasks.{Task, asks, task, gathers}
+use Rattle.practice.specs.Tasks.{asks, task, gathers}
 use Rattle.practice.proofs.Doing.{did_call}
 use Rattle.practice.proofs.answering.answer_line.Goals as goal
 

@@ -1,4 +1,4 @@
-use Rattle.std.proofs.Common.{◌≡◌, List, [], ◌∷◌, vec_items, sym, ap, ◌∙◌, subst}
+use Rattle.std.proofs.Common.{List, vec_items, ap, subst}
 use Rattle.rules.specs.Steps.{Desk}
 use Rattle.sheet.specs.Told.{Told, says}
 use Rattle.sheet.specs.Handing.{left}

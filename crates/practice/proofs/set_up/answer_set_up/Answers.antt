@@ -1,10 +1,10 @@
-use Rattle.std.proofs.Common.{◌≡◌, List, vec_items, sym, refl, ap, ◌∙◌}
+use Rattle.std.proofs.Common.{List, sym, ap, ◌∙◌}
 use Rattle.rules.specs.declared.request.Payment.{Payment}
 use Rattle.rules.specs.declared.security.ListEntry.{ListEntry}
 use Rattle.rules.specs.Plain.{opens, pays_in, draws_out, closes}
 use Rattle.rules.specs.Steps.{call}
 use Rattle.floor.specs.View.{view}
-use Rattle.practice.specs.Tasks.{Task, asks, set_up_task, set_up_gathers}
+use Rattle.practice.specs.Tasks.{asks, set_up_task, set_up_gathers}
 use Rattle.practice.proofs.Doing.{did_call, did_pair}
 use Rattle.practice.proofs.set_up.answer_set_up.Goals as goal
 

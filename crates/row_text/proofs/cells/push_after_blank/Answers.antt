@@ -1,4 +1,4 @@
-use Rattle.std.proofs.Common.{List, [], ◌∷◌, string_bytes}
+use Rattle.std.proofs.Common.{[], ◌∷◌, string_bytes}
 use Rattle.row_text.specs.Cells.{cell_text}
 use Rattle.row_text.proofs.Pushing.{then_made}
 use Rattle.row_text.proofs.cells.push_after_blank.Goals as goal

@@ -1,4 +1,4 @@
-use Rattle.std.proofs.Common.{List, [], ◌∷◌, string_bytes}
+use Rattle.std.proofs.Common.{[], ◌∷◌, string_bytes}
 use Rattle.statement.specs.Cells.{cell_text}
 use Rattle.statement.proofs.Pushing.{then_made}
 use Rattle.statement.proofs.cells.push_after_blank.Goals as goal

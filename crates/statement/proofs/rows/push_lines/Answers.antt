@@ -1,4 +1,4 @@
-use Rattle.std.proofs.Common.{◌≡◌, ◌+◌, ◌<◌, ◌≤◌, List, ◌++◌, length, string_bytes, sym, ap, ◌∙◌, arith}
+use Rattle.std.proofs.Common.{◌<◌, ◌≤◌, List, ◌++◌, length, string_bytes, ap, ◌∙◌, arith}
 use Rattle.tape.specs.declared.line.Line.{Line}
 use Rattle.tape.proofs.Fetched.{read_there}
 use Rattle.statement.specs.declared.words.Word.TheVariants.{Line as a_line}

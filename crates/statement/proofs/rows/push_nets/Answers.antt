@@ -1,4 +1,4 @@
-use Rattle.std.proofs.Common.{◌≡◌, List, ◌++◌, get_or, string_bytes, sym, ap, ◌∙◌}
+use Rattle.std.proofs.Common.{List, ◌++◌, get_or, string_bytes, ap, ◌∙◌}
 use Rattle.std.specs.List.{flat_map}
 use Rattle.std.proofs.lemmas.List.{take_all}
 use Rattle.tape.specs.declared.line.Line.{Line}

@@ -1,7 +1,6 @@
-use Rattle.std.proofs.Common.{◌≡◌, ◌+◌, ◌<◌, ◌≤◌, length, get_or, vec_items, vec_len, sym, refl, ap, ◌∙◌, subst, arith, rules}
+use Rattle.std.proofs.Common.{◌+◌, ◌<◌, length, vec_items, sym, refl, ap, ◌∙◌, subst, rules}
 use Rattle.std.proofs.lemmas.List.{get_or_read}
 use Rattle.rules.specs.Orders.{no_one, is_live}
-use Rattle.rules.specs.declared.order.Standing.{Standing}
 use Rattle.floor.specs.View.{view, room_of}
 use Rattle.floor.specs.declared.floor.Floor.{Floor}
 use Rattle.floor.proofs.Closings.{Closing, closing_starts, closing_live, closing_dead, closing_ends}

@@ -1,4 +1,4 @@
-use Rattle.std.proofs.Common.{◌≡◌, Bool, Ok, sym, refl, ap, ◌∙◌}
+use Rattle.std.proofs.Common.{Bool, Ok, sym, refl, ap}
 use Rattle.std.proofs.lemmas.Bool.{true≢false}
 use Rattle.market.specs.declared.refusal.Refusal.TheVariants.{DayNotOpen}
 use Rattle.rules.specs.Calls.{unless, shut, closed}

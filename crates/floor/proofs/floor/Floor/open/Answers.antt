@@ -1,4 +1,4 @@
-use Rattle.std.proofs.Common.{◌≡◌, ℕ, true, sym, refl, ap, ◌∙◌}
+use Rattle.std.proofs.Common.{ℕ, true, refl, ap, ◌∙◌}
 use Rattle.std.proofs.lemmas.Bool.{true≢false}
 use Rattle.rules.specs.Calls.{Answer}
 use Rattle.rules.specs.Replies.{counted}

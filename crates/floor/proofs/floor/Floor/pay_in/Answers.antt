@@ -1,4 +1,4 @@
-use Rattle.std.proofs.Common.{◌≡◌, refl, ◌∙◌}
+use Rattle.std.proofs.Common.{refl}
 use Rattle.std.proofs.lemmas.Bool.{true≢false}
 use Rattle.ledger.specs.Moves.{pay_in_answer}
 use Rattle.rules.specs.declared.event.Event.TheVariants.{PaidIn}

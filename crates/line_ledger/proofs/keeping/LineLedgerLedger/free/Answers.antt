@@ -1,4 +1,4 @@
-use Rattle.std.proofs.Common.{◌≡◌, ap, arith}
+use Rattle.std.proofs.Common.{ap, arith}
 use Rattle.ledger.specs.Books.{Figures}
 use Rattle.line_ledger.proofs.Finding.{read_found}
 use Rattle.line_ledger.proofs.keeping.LineLedgerLedger.free.Goals as goal

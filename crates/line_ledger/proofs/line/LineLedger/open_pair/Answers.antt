@@ -1,6 +1,5 @@
-use Rattle.std.proofs.Common.{◌≡◌, ◌-◌, ◌<◌, true, false, length, sym, refl, ◌∙◌, arith}
-use Rattle.ledger.specs.Books.{in_range}
-use Rattle.line_ledger.specs.Rows.{look, Kept}
+use Rattle.std.proofs.Common.{◌≡◌, ◌<◌, length, sym, ◌∙◌, arith}
+use Rattle.line_ledger.specs.Rows.{Kept}
 use Rattle.line_ledger.specs.Opening.{room_of}
 use Rattle.line_ledger.specs.Lines.{line_book, line_room}
 use Rattle.line_ledger.specs.Reading.{look_closed}

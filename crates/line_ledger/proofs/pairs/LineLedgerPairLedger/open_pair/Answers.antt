@@ -1,4 +1,3 @@
-use Rattle.std.proofs.Common.{rules}
 use Rattle.ledger.specs.Opening.{open_answer, open_after}
 use Rattle.line_ledger.specs.Opening.{open_answer as line_answer, open_after as line_after}
 use Rattle.line_ledger.proofs.pairs.LineLedgerPairLedger.open_pair.Goals as goal

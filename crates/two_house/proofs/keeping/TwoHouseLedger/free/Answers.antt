@@ -1,4 +1,4 @@
-use Rattle.std.proofs.Common.{◌≡◌, sym, ap, ◌∙◌}
+use Rattle.std.proofs.Common.{sym, ap, ◌∙◌}
 use Rattle.ledger.specs.Books.{Figures}
 use Rattle.two_house.specs.Parts.{money, security}
 use Rattle.two_house.proofs.keeping.TwoHouseLedger.free.Goals as goal

@@ -1,4 +1,4 @@
-use Rattle.std.proofs.Common.{◌≡◌, ap, ◌∙◌}
+use Rattle.std.proofs.Common.{ap, ◌∙◌}
 use Rattle.ledger.specs.Books.{Book, Room}
 use Rattle.two_house.specs.Houses.{both, both_room}
 use Rattle.two_house.proofs.Moves.{hold_in_bank, hold_in_depository}

@@ -1,8 +1,8 @@
 use Rattle.std.proofs.Common.{◌≡◌, ℕ, sym, ap, ◌∙◌, subst}
 use Rattle.ledger.specs.Books.{Book, Room}
-use Rattle.ledger.specs.Opening.{open_answer, open_after, room_after, SameFigures}
+use Rattle.ledger.specs.Opening.{open_answer, open_after, SameFigures}
 use Rattle.ledger.proofs.Pairs.{opened_same}
-use Rattle.two_house.specs.Houses.{both, both_room, both_share}
+use Rattle.two_house.specs.Houses.{both, both_room}
 use Rattle.two_house.specs.Parts.{both_lawful}
 use Rattle.two_house.specs.Pairs.{open_in_bank, open_in_depository, money_room, security_room, room_in_bank, room_in_depository}
 use Rattle.two_house.proofs.opening.TwoHousePairLedger.open_pair.Goals as goal
