@@ -1,6 +1,5 @@
-ghost use Rattle.std.specs.Prelude.{true};
 ghost use Rattle.line_ledger.specs.Sharing.{all_share};
-ghost use Rattle.std.proofs.Common.{rules, arith};
+ghost use Rattle.std.specs.Prelude.{refl};
 
 use crate::line::LineLedger;
 use ledger::PairLedger;
@@ -9,7 +8,7 @@ use market::Refusal;
 impl PairLedger for LineLedger {
     ghost shares = { all_share };
 
-    ghost own = { first_of (Prim.search rules, Prim.grind (arith, Self.row.coded.inj)) };
+    ghost own = { λ i. refl };
 
     fn open_pair(&mut self, account: u64, item: u32) -> Result<(), Refusal> {
         LineLedger::open_pair(self, account, item)
