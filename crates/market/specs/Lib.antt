@@ -3,3 +3,4 @@ pub mod Figures
 pub mod Kinds
 pub mod Refusals
 pub mod Classes
+pub mod Numbers

@@ -1,6 +1,8 @@
 ghost use Rattle.std.specs.Prelude.{◌≡◌};
 ghost use Rattle.market.specs.Classes.{class_number, class_of, price_step, on_step, reaches, trades_at, takes_code};
+ghost use Rattle.market.specs.Numbers.{Reads};
 
+use crate::number::BadNumber;
 use crate::price::Price;
 use crate::quantity::Quantity;
 
@@ -43,16 +45,6 @@ impl Class {
         match self {
             Class::Bond => 1,
             Class::QuotedShare => 2,
-        }
-    }
-
-    pub fn from_number(n: u32) -> Option<Class>
-        ensures { result ≡ class_of n }
-    {
-        match n {
-            1 => Some(Class::Bond),
-            2 => Some(Class::QuotedShare),
-            _ => None,
         }
     }
 
@@ -103,6 +95,20 @@ impl Class {
         match self {
             Class::Bond => true,
             Class::QuotedShare => SHARE_FIRST_CODE <= code && code <= SHARE_LAST_CODE,
+        }
+    }
+}
+
+impl TryFrom<u32> for Class {
+    type Error = BadNumber;
+
+    ghost try_from_gives = { Reads class_of };
+
+    fn try_from(n: u32) -> Result<Class, BadNumber> {
+        match n {
+            1 => Ok(Class::Bond),
+            2 => Ok(Class::QuotedShare),
+            _ => Err(BadNumber(u64::from(n))),
         }
     }
 }

@@ -1,5 +1,8 @@
 ghost use Rattle.std.specs.Prelude.{◌≡◌};
 ghost use Rattle.market.specs.Kinds.{side_number, side_of, kind_number, kind_of, sort_number, sort_of_kind, reason_number, reason_of};
+ghost use Rattle.market.specs.Numbers.{Reads};
+
+use crate::number::BadNumber;
 
 #[derive(Clone, Copy, PartialEq, Eq)]
 pub enum Side {
@@ -48,14 +51,18 @@ impl Side {
             Side::Sell => 2,
         }
     }
+}
 
-    pub fn from_number(n: u8) -> Option<Side>
-        ensures { result ≡ side_of n }
-    {
+impl TryFrom<u8> for Side {
+    type Error = BadNumber;
+
+    ghost try_from_gives = { Reads side_of };
+
+    fn try_from(n: u8) -> Result<Side, BadNumber> {
         match n {
-            1 => Some(Side::Buy),
-            2 => Some(Side::Sell),
-            _ => None,
+            1 => Ok(Side::Buy),
+            2 => Ok(Side::Sell),
+            _ => Err(BadNumber(u64::from(n))),
         }
     }
 }
@@ -72,18 +79,6 @@ impl OrderKind {
         }
     }
 
-    pub fn from_number(n: u8) -> Option<OrderKind>
-        ensures { result ≡ kind_of n }
-    {
-        match n {
-            1 => Some(OrderKind::Intention),
-            2 => Some(OrderKind::FirmQuote),
-            3 => Some(OrderKind::Negotiated),
-            4 => Some(OrderKind::Click),
-            _ => None,
-        }
-    }
-
     pub fn sort(self) -> Sort
         ensures { result ≡ sort_of_kind self }
     {
@@ -91,6 +86,22 @@ impl OrderKind {
             OrderKind::Intention => Sort::Intention,
             OrderKind::FirmQuote => Sort::FirmQuote,
             OrderKind::Negotiated | OrderKind::Click => Sort::DealOrder,
+        }
+    }
+}
+
+impl TryFrom<u8> for OrderKind {
+    type Error = BadNumber;
+
+    ghost try_from_gives = { Reads kind_of };
+
+    fn try_from(n: u8) -> Result<OrderKind, BadNumber> {
+        match n {
+            1 => Ok(OrderKind::Intention),
+            2 => Ok(OrderKind::FirmQuote),
+            3 => Ok(OrderKind::Negotiated),
+            4 => Ok(OrderKind::Click),
+            _ => Err(BadNumber(u64::from(n))),
         }
     }
 }
@@ -120,18 +131,22 @@ impl CancelReason {
             CancelReason::Mismatch => 19,
         }
     }
+}
 
-    pub fn from_number(n: u8) -> Option<CancelReason>
-        ensures { result ≡ reason_of n }
-    {
+impl TryFrom<u8> for CancelReason {
+    type Error = BadNumber;
+
+    ghost try_from_gives = { Reads reason_of };
+
+    fn try_from(n: u8) -> Result<CancelReason, BadNumber> {
         match n {
-            1 => Some(CancelReason::Withdrawn),
-            2 => Some(CancelReason::QuoteRest),
-            3 => Some(CancelReason::ClickRest),
-            4 => Some(CancelReason::Close),
-            18 => Some(CancelReason::NoQuote),
-            19 => Some(CancelReason::Mismatch),
-            _ => None,
+            1 => Ok(CancelReason::Withdrawn),
+            2 => Ok(CancelReason::QuoteRest),
+            3 => Ok(CancelReason::ClickRest),
+            4 => Ok(CancelReason::Close),
+            18 => Ok(CancelReason::NoQuote),
+            19 => Ok(CancelReason::Mismatch),
+            _ => Err(BadNumber(u64::from(n))),
         }
     }
 }

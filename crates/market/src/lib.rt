@@ -4,6 +4,7 @@
 mod amount;
 mod class;
 mod kinds;
+mod number;
 mod price;
 mod quantity;
 mod ranges;
@@ -12,6 +13,7 @@ mod refusal;
 pub use amount::Amount;
 pub use class::Class;
 pub use kinds::{CancelReason, OrderKind, Side, Sort};
+pub use number::BadNumber;
 pub use price::Price;
 pub use quantity::Quantity;
 pub use ranges::Figure;

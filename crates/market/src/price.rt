@@ -1,6 +1,8 @@
 ghost use Rattle.std.specs.Prelude.{◌≡◌};
+ghost use Rattle.market.specs.Numbers.{Reads};
 ghost use Rattle.market.specs.Figures.{price, price_of};
 
+use crate::number::BadNumber;
 use crate::ranges::Figure;
 
 // Thousandths of a yuan for one sheet or share.
@@ -16,22 +18,26 @@ impl Price {
         Price { number }
     }
 
-    // The price of that number, if it is in range.
-    pub fn checked(number: u64) -> Option<Price>
-        ensures { result ≡ price_of number }
-    {
-        if Figure::Price.admits(number) {
-            Some(Price {
-                number: number as u32,
-            })
-        } else {
-            None
-        }
-    }
-
     pub fn get(self) -> u32
         ensures { result ≡ self.number }
     {
         self.number
+    }
+}
+
+// The price of a number, if it is in range.
+impl TryFrom<u64> for Price {
+    type Error = BadNumber;
+
+    ghost try_from_gives = { Reads price_of };
+
+    fn try_from(number: u64) -> Result<Price, BadNumber> {
+        if Figure::Price.admits(number) {
+            Ok(Price {
+                number: number as u32,
+            })
+        } else {
+            Err(BadNumber(number))
+        }
     }
 }

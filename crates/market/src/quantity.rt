@@ -1,7 +1,9 @@
 ghost use Rattle.std.specs.Prelude.{◌≡◌};
+ghost use Rattle.market.specs.Numbers.{Reads};
 ghost use Rattle.market.specs.Figures.{quantity, quantity_of, times};
 
 use crate::amount::Amount;
+use crate::number::BadNumber;
 use crate::price::Price;
 use crate::ranges::Figure;
 
@@ -18,19 +20,6 @@ impl Quantity {
         Quantity { number }
     }
 
-    // The quantity of that number, if it is in range.
-    pub fn checked(number: u64) -> Option<Quantity>
-        ensures { result ≡ quantity_of number }
-    {
-        if Figure::Quantity.admits(number) {
-            Some(Quantity {
-                number: number as u32,
-            })
-        } else {
-            None
-        }
-    }
-
     pub fn get(self) -> u32
         ensures { result ≡ self.number }
     {
@@ -43,6 +32,23 @@ impl Quantity {
     {
         Amount {
             number: self.get() as u64 * price.get() as u64,
+        }
+    }
+}
+
+// The quantity of a number, if it is in range.
+impl TryFrom<u64> for Quantity {
+    type Error = BadNumber;
+
+    ghost try_from_gives = { Reads quantity_of };
+
+    fn try_from(number: u64) -> Result<Quantity, BadNumber> {
+        if Figure::Quantity.admits(number) {
+            Ok(Quantity {
+                number: number as u32,
+            })
+        } else {
+            Err(BadNumber(number))
         }
     }
 }
