@@ -1,14 +1,15 @@
--- A search that counts as it goes.
-use Rattle.std.proofs.Common.{◌≡◌, ℕ, suc, ◌+◌, ◌<◌, ◌≤◌, Bool, true, false, cond, List, [], ◌∷◌, length, get_or, drop, Some, None, Option, sym, refl, ap, ◌∙◌, arith}
-use Rattle.std.specs.Option.{option_map}
-use Rattle.std.proofs.lemmas.Bool.{cond-true, cond-false}
-use Rattle.std.proofs.lemmas.List.{at_drop_more, at_drop_all}
+-- What the searches of iterators find, in the words of the rules.
+use Rattle.std.proofs.Common.{◌≡◌, ℕ, suc, ◌+◌, ◌<◌, ◌&&◌, ◌||◌, Bool, true, false, cond, eqb, List, [], ◌∷◌, length, Some, None, Option, is_some, sym, refl, ap, ◌∙◌, arith}
+use Rattle.std.specs.Option.{option_map, IfSome}
+use Rattle.std.specs.List.{position, position_from, list_any, find}
+use Rattle.std.proofs.lemmas.Iterator.Adapters.{position_from-zero}
 use Rattle.rules.specs.Orders.{first_place}
+use Rattle.rules.specs.Checks.{has_name, has_dealt, between_units}
+use Rattle.rules.specs.Listing.{find_listed}
 use Rattle.rules.specs.declared.order.Standing.{Standing}
-
-abbrev pub place_from : (Standing → Bool) → ℕ → List Standing → Option ℕ
-place_from p k [] = None
-place_from p k (x ∷ xs) = cond (p x) (Some k) (place_from p (k + 1) xs)
+use Rattle.rules.specs.declared.order.Name.{Name}
+use Rattle.rules.specs.declared.order.Agreement.{Agreement}
+use Rattle.rules.specs.declared.security.Security.{Security}
 
 further : (k : ℕ) (r : Option ℕ) → option_map (λ n. (k + 1) + n) r ≡ option_map (λ n. k + n) (option_map suc r)
 further k None = refl
@@ -18,41 +19,55 @@ mapped_cond : (b : Bool) (f : ℕ → ℕ) (n : ℕ) (r : Option ℕ) → option
 mapped_cond true f n r = refl
 mapped_cond false f n r = refl
 
-place_from_is : (p : Standing → Bool) (k : ℕ) (t : List Standing) → place_from p k t ≡ option_map (λ n. k + n) (first_place p t)
-place_from_is p k [] = refl
-place_from_is p k (x ∷ xs) =
+counted_from : (p : Standing → Bool) (k : ℕ) (t : List Standing) → position_from p k t ≡ option_map (λ n. k + n) (first_place p t)
+counted_from p k [] = refl
+counted_from p k (x ∷ xs) =
     let z : k ≡ k + 0 = omega arith in
-    ap (λ r. cond (p x) (Some k) r) (place_from_is p (k + 1) xs ∙ further k (first_place p xs))
+    ap (λ r. cond (p x) (Some k) r) (counted_from p (k + 1) xs ∙ further k (first_place p xs))
     ∙ ap (λ n. cond (p x) (Some n) (option_map (λ n. k + n) (option_map suc (first_place p xs)))) z
     ∙ sym (mapped_cond (p x) (λ n. k + n) 0 (option_map suc (first_place p xs)))
 
-at_nothing : (r : Option ℕ) → option_map (λ n. 0 + n) r ≡ r
-at_nothing None = refl
-at_nothing (Some n) = ap Some (omega arith)
+from_nothing : (r : Option ℕ) → option_map (λ n. 0 + n) r ≡ r
+from_nothing None = refl
+from_nothing (Some n) = ap Some (omega arith)
 
-pub seek_starts : (p : Standing → Bool) (t : List Standing) → place_from p 0 t ≡ first_place p t
-seek_starts p t = place_from_is p 0 t ∙ at_nothing (first_place p t)
+-- the first position at which a test passes is the first place of the table
+pub found_first : (p : Standing → Bool) (t : List Standing) → position p t ≡ first_place p t
+found_first p t = position_from-zero p t ∙ counted_from p 0 t ∙ from_nothing (first_place p t)
 
-pub seek_passes : (p : Standing → Bool) (t : List Standing) (i : ℕ) (x : Standing) → i < length t → p (get_or t i x) ≡ false →
-    place_from p i (drop i t) ≡ first_place p t → place_from p (i + 1) (drop (i + 1) t) ≡ first_place p t
-seek_passes p t i x h no' inv =
-    sym (at_drop_more (place_from p i) t i x h ∙ cond-false _ _ _ no') ∙ inv
+moved_up : (r : Option ℕ) (n : ℕ) → IfSome r (λ k. k < n) → IfSome (option_map suc r) (λ k. k < suc n)
+moved_up None n h = tt
+moved_up (Some k) n h = omega arith
 
-pub seek_finds : (p : Standing → Bool) (t : List Standing) (i : ℕ) (x : Standing) → i < length t → p (get_or t i x) ≡ true →
-    place_from p i (drop i t) ≡ first_place p t → Some i ≡ first_place p t
-seek_finds p t i x h yes' inv = sym (at_drop_more (place_from p i) t i x h ∙ cond-true _ _ _ yes') ∙ inv
+either : (b : Bool) (r : Option ℕ) (n : ℕ) → IfSome r (λ k. k < suc n) → IfSome (cond b (Some 0) r) (λ k. k < suc n)
+either true r n h = omega arith
+either false r n h = h
 
-pub seek_ends : (p : Standing → Bool) (t : List Standing) (i : ℕ) → length t ≤ i → place_from p i (drop i t) ≡ first_place p t → None ≡ first_place p t
-seek_ends p t i h inv = sym (at_drop_all (place_from p i) t i h) ∙ inv
+-- and it lies within the table
+pub found_within : (p : Standing → Bool) (t : List Standing) → IfSome (first_place p t) (λ k. k < length t)
+found_within p [] = tt
+found_within p (x ∷ xs) = either (p x) _ (length xs) (moved_up (first_place p xs) (length xs) (found_within p xs))
 
--- a question that goes on to the rest where an element does not settle it
-pub goes_on : {X Y : Type 0} (F : List X → Y) (xs : List X) (i : ℕ) (d : X) → i < length xs → F (get_or xs i d ∷ drop (i + 1) xs) ≡ F (drop (i + 1) xs) →
-    F (drop i xs) ≡ F xs → F (drop (i + 1) xs) ≡ F xs
-goes_on F xs i d h e inv = sym e ∙ sym (at_drop_more F xs i d h) ∙ inv
+pub any_name : (u n : ℕ) (cs : List Name) → list_any (λ c. eqb c.unit u && eqb c.serial n) cs ≡ has_name u n cs
+any_name u n [] = refl
+any_name u n (c ∷ cs) = ap (λ (b : Bool). (eqb c.unit u && eqb c.serial n) || b) (any_name u n cs)
 
-pub settled_at : {X Y : Type 0} (F : List X → Y) (xs : List X) (i : ℕ) (d : X) (y : Y) → i < length xs → F (get_or xs i d ∷ drop (i + 1) xs) ≡ y →
-    F (drop i xs) ≡ F xs → y ≡ F xs
-settled_at F xs i d y h e inv = sym e ∙ sym (at_drop_more F xs i d h) ∙ inv
+pub any_dealt : (u v n : ℕ) (ds : List Agreement) → list_any (λ a. eqb a.number n && between_units u v a) ds ≡ has_dealt u v n ds
+any_dealt u v n [] = refl
+any_dealt u v n (a ∷ ds) = ap (λ (b : Bool). (eqb a.number n && between_units u v a) || b) (any_dealt u v n ds)
 
-pub ran_out : {X Y : Type 0} (F : List X → Y) (xs : List X) (i : ℕ) → length xs ≤ i → F (drop i xs) ≡ F xs → F [] ≡ F xs
-ran_out F xs i h inv = sym (at_drop_all F xs i h) ∙ inv
+some_up : (r : Option ℕ) → is_some (option_map suc r) ≡ is_some r
+some_up None = refl
+some_up (Some k) = refl
+
+some_at : (b : Bool) (r : Option ℕ) → is_some (cond b (Some 0) (option_map suc r)) ≡ (b || is_some r)
+some_at true r = refl
+some_at false r = some_up r
+
+pub any_place : (p : Standing → Bool) (t : List Standing) → list_any p t ≡ is_some (first_place p t)
+any_place p [] = refl
+any_place p (x ∷ xs) = ap (λ (b : Bool). p x || b) (any_place p xs) ∙ sym (some_at (p x) (first_place p xs))
+
+pub find_is_listed : (c : ℕ) (ss : List Security) → find (λ s. eqb s.code c) ss ≡ find_listed ss c
+find_is_listed c [] = refl
+find_is_listed c (s ∷ ss) = ap (λ (r : Option Security). cond (eqb s.code c) (Some s) r) (find_is_listed c ss)

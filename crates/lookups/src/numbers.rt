@@ -16,22 +16,13 @@ fn is_between(u: u32, v: u32, a: &Agreement) -> bool
     (a.buyer == u && a.seller == v) || (a.buyer == v && a.seller == u)
 }
 
-fn is_agreed(u: u32, v: u32, number: u32, a: &Agreement) -> bool
-    ensures { result ≡ (a.now.number == number) && between_units u v a.now }
-{
-    a.number == number && is_between(u, v, a)
-}
-
 // Whether the two units have dealt under the number today, either way round.
 pub fn has_dealt(agreed: &[Agreement], u: u32, v: u32, number: u32) -> bool
     ensures { result ≡ has_dealt u v number agreed.now }
 {
-    for a in agreed {
-        if is_agreed(u, v, number, a) {
-            return true;
-        }
-    }
-    false
+    agreed
+        .iter()
+        .any(|a| a.number == number && is_between(u, v, a))
 }
 
 // Whether an order of that kind may take the number between the two units; only a negotiated one is asked.
@@ -57,13 +48,10 @@ pub fn number_is_free(
 fn quote_count(orders: &[Standing]) -> usize
     ensures { result ≡ count_by (is_kind FirmQuote) orders.now }
 {
-    let mut n = 0;
-    for x in orders {
-        if is_kind(OrderKind::FirmQuote, x) {
-            n += 1;
-        }
-    }
-    n
+    orders
+        .iter()
+        .filter(|x| is_kind(OrderKind::FirmQuote, x))
+        .count()
 }
 
 // The number that the next firm quote is given.

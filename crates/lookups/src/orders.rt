@@ -17,13 +17,7 @@ pub fn is_live(x: &Standing) -> bool
 pub fn live_count(orders: &[Standing]) -> usize
     ensures { result ≡ live_count orders.now }
 {
-    let mut n = 0;
-    for x in orders {
-        if is_live(x) {
-            n += 1;
-        }
-    }
-    n
+    orders.iter().filter(|x| is_live(x)).count()
 }
 
 // What an order needs: a seller the security, a buyer money.

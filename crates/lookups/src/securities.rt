@@ -7,10 +7,5 @@ use rules::Security;
 pub fn find_listed(securities: &[Security], code: u32) -> Option<Security>
     ensures { result ≡ find_listed securities.now code }
 {
-    for s in securities {
-        if s.code == code {
-            return Some(*s);
-        }
-    }
-    None
+    securities.iter().find(|s| s.code == code).copied()
 }

@@ -26,7 +26,7 @@ pub struct Standing {
 }
 
 // What a unit calls an order or a cancel of its own.
-#[derive(Clone, Copy)]
+#[derive(Clone, Copy, PartialEq, Eq)]
 pub struct Name {
     pub unit: u32,
     pub serial: u32,
