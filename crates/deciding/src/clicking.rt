@@ -1,8 +1,10 @@
 ghost use Rattle.std.specs.Prelude.{◌≡◌, ◌+◌, ◌<◌, length, IfSome};
 ghost use Rattle.rules.specs.Dealing.{stands_on, click_short, quote_short, hit, click};
+ghost use Rattle.market.specs.Figures.{quantity};
+ghost use Rattle.rules.specs.declared.event.Follow.TheVariants.{DealAndCancel};
 ghost use Rattle.deciding.specs.Places.{Within, Between};
 
-use crate::fitting::{deal, does_fit};
+use crate::fitting::{deal, does_fit, parties};
 use market::{CancelReason, Quantity, Side};
 use rules::{Follow, Order, Security, Standing};
 
@@ -16,54 +18,41 @@ fn stands_on(security: Option<Security>, quote: &Order, rest: u32) -> bool
     }
 }
 
+// A deal, after which the rest of the order at one of the two places is cancelled.
+fn deal_and_cancel(
+    parties: (usize, usize),
+    number: u32,
+    rest: usize,
+    reason: CancelReason,
+) -> Follow
+    ensures { result ≡ DealAndCancel parties.0 parties.1 (quantity number) rest reason }
+{
+    let (buyer, seller) = parties;
+    Follow::DealAndCancel {
+        buyer,
+        seller,
+        quantity: Quantity::new(number),
+        rest,
+        reason,
+    }
+}
+
 // The click at place n takes all that is live of the quote at place k; its own rest is cancelled.
+#[tactic(auto, using(crate::proofs::Sides::click_shorted, crate::proofs::Sides::buyer_below, crate::proofs::Sides::seller_below))]
 fn click_falls_short(side: Side, n: usize, k: usize, live: u32) -> Follow
     ensures value { result ≡ click_short side n k live }
     ensures within { Between result n k }
 {
-    let quantity = Quantity::new(live);
-    let reason = CancelReason::ClickRest;
-    match side {
-        Side::Buy => Follow::DealAndCancel {
-            buyer: n,
-            seller: k,
-            quantity,
-            rest: n,
-            reason,
-        },
-        Side::Sell => Follow::DealAndCancel {
-            buyer: k,
-            seller: n,
-            quantity,
-            rest: n,
-            reason,
-        },
-    }
+    deal_and_cancel(parties(side, n, k), live, n, CancelReason::ClickRest)
 }
 
 // The quote is left with less than its least size, which is cancelled.
+#[tactic(auto, using(crate::proofs::Sides::quote_shorted, crate::proofs::Sides::buyer_below, crate::proofs::Sides::seller_below))]
 fn quote_falls_short(side: Side, n: usize, k: usize, asked: u32) -> Follow
     ensures value { result ≡ quote_short side n k asked }
     ensures within { Between result n k }
 {
-    let quantity = Quantity::new(asked);
-    let reason = CancelReason::QuoteRest;
-    match side {
-        Side::Buy => Follow::DealAndCancel {
-            buyer: n,
-            seller: k,
-            quantity,
-            rest: k,
-            reason,
-        },
-        Side::Sell => Follow::DealAndCancel {
-            buyer: k,
-            seller: n,
-            quantity,
-            rest: k,
-            reason,
-        },
-    }
+    deal_and_cancel(parties(side, n, k), asked, k, CancelReason::QuoteRest)
 }
 
 // The click at place n fits the quote at place k, of which so much is live.

@@ -48,14 +48,6 @@ pub found_within : (p : Standing → Bool) (t : List Standing) → IfSome (first
 found_within p [] = tt
 found_within p (x ∷ xs) = either (p x) _ (length xs) (moved_up (first_place p xs) (length xs) (found_within p xs))
 
-pub any_name : (u n : ℕ) (cs : List Name) → list_any (λ c. eqb c.unit u && eqb c.serial n) cs ≡ has_name u n cs
-any_name u n [] = refl
-any_name u n (c ∷ cs) = ap (λ (b : Bool). (eqb c.unit u && eqb c.serial n) || b) (any_name u n cs)
-
-pub any_dealt : (u v n : ℕ) (ds : List Agreement) → list_any (λ a. eqb a.number n && between_units u v a) ds ≡ has_dealt u v n ds
-any_dealt u v n [] = refl
-any_dealt u v n (a ∷ ds) = ap (λ (b : Bool). (eqb a.number n && between_units u v a) || b) (any_dealt u v n ds)
-
 some_up : (r : Option ℕ) → is_some (option_map suc r) ≡ is_some r
 some_up None = refl
 some_up (Some k) = refl
@@ -67,7 +59,3 @@ some_at false r = some_up r
 pub any_place : (p : Standing → Bool) (t : List Standing) → list_any p t ≡ is_some (first_place p t)
 any_place p [] = refl
 any_place p (x ∷ xs) = ap (λ (b : Bool). p x || b) (any_place p xs) ∙ sym (some_at (p x) (first_place p xs))
-
-pub find_is_listed : (c : ℕ) (ss : List Security) → find (λ s. eqb s.code c) ss ≡ find_listed ss c
-find_is_listed c [] = refl
-find_is_listed c (s ∷ ss) = ap (λ (r : Option Security). cond (eqb s.code c) (Some s) r) (find_is_listed c ss)

@@ -70,7 +70,5 @@ pub fn find_order(orders: &[Standing], sort: Sort, unit: u32, serial: u32) -> Op
     ensures value { result ≡ first_place (answers_to sort unit serial) orders.now }
     ensures within { IfSome result (λ k. k < length orders.now) }
 {
-    orders
-        .iter()
-        .position(|x| is_sorted(sort, unit, serial, x))
+    orders.iter().position(|x| is_sorted(sort, unit, serial, x))
 }

@@ -8,17 +8,11 @@ use market::Class;
 pub(crate) fn fits_class(number: u32, code: u32) -> bool
     ensures { result ≡ fits_class (class_of number) code }
 {
-    match Class::from_number(number) {
-        None => false,
-        Some(class) => class.takes_code(code),
-    }
+    Class::try_from(number).is_ok_and(|class| class.takes_code(code))
 }
 
 pub(crate) fn class_or_bond(number: u32) -> Class
     ensures { result ≡ class_or_bond (class_of number) }
 {
-    match Class::from_number(number) {
-        None => Class::Bond,
-        Some(class) => class,
-    }
+    Class::try_from(number).unwrap_or(Class::Bond)
 }

@@ -11,12 +11,7 @@ pub const MOST_SECURITIES: usize = 64;
 fn has_code(code: u32, before: &[ListEntry]) -> bool
     ensures { result ≡ has_code code before.now }
 {
-    for e in before {
-        if e.code == code {
-            return true;
-        }
-    }
-    false
+    before.iter().any(|e| e.code == code)
 }
 
 // Whether the entry is without fault behind those before it.

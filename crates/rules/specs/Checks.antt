@@ -4,7 +4,8 @@
 --   number_free s e        whether a negotiated entry's number is free between its two units
 --   answers_to sort u n x  x is the order of that sort, unit and serial
 --   order_for t e          the order that the entry e becomes behind the table t
-use Rattle.std.specs.Prelude.{ℕ, ◌-◌, Bool, true, false, cond, not, ◌&&◌, ◌||◌, List, [], ◌∷◌, is_some, count_by, ◌==◌, nat_le}
+use Rattle.std.specs.Prelude.{ℕ, ◌-◌, Bool, true, cond, not, ◌&&◌, ◌||◌, List, is_some, count_by, ◌==◌, nat_le}
+use Rattle.std.specs.List.{list_any}
 use Rattle.market.specs.declared.kinds.OrderKind.{OrderKind}
 use Rattle.market.specs.declared.kinds.OrderKind.TheVariants.{Intention, FirmQuote, Negotiated, Click}
 use Rattle.market.specs.declared.kinds.Sort.{Sort}
@@ -87,8 +88,7 @@ abbrev pub of_unit : ℕ → ℕ → Standing → Bool
 of_unit u n x = x.order.unit == u && x.order.serial == n
 
 abbrev pub has_name : ℕ → ℕ → List Name → Bool
-has_name u n [] = false
-has_name u n (c ∷ cs) = (c.unit == u && c.serial == n) || has_name u n cs
+has_name u n cs = list_any (λ c. c.unit == u && c.serial == n) cs
 
 abbrev pub serial_used : State → ℕ → ℕ → Bool
 serial_used s u n = is_some (first_place (of_unit u n) s.orders) || has_name u n s.cancels
@@ -98,8 +98,7 @@ abbrev pub between_units : ℕ → ℕ → Agreement → Bool
 between_units u v a = (a.buyer == u && a.seller == v) || (a.buyer == v && a.seller == u)
 
 abbrev pub has_dealt : ℕ → ℕ → ℕ → List Agreement → Bool
-has_dealt u v n [] = false
-has_dealt u v n (a ∷ rest) = (a.number == n && between_units u v a) || has_dealt u v n rest
+has_dealt u v n ds = list_any (λ a. a.number == n && between_units u v a) ds
 
 -- a live negotiated order of the unit u naming v with the number n
 abbrev pub waits : ℕ → ℕ → ℕ → Standing → Bool

@@ -5,7 +5,8 @@
 --   listed es       the securities that a list without fault gives
 --   find_listed ss c   the security of the code c, if it is listed
 --   quoted s p      whether the price p may be asked for the security s
-use Rattle.std.specs.Prelude.{◌≡◌, ℕ, Bool, true, false, cond, not, ◌&&◌, ◌||◌, List, [], ◌∷◌, ◌++◌, length, take, Some, None, Option, ◌==◌, nat_le, nat_lt, slice_index_or}
+use Rattle.std.specs.Prelude.{◌≡◌, ℕ, Bool, true, false, cond, not, ◌&&◌, List, [], ◌∷◌, ◌++◌, length, take, Some, None, Option, ◌==◌, nat_le, nat_lt, slice_index_or}
+use Rattle.std.specs.List.{find, list_any}
 use Rattle.market.specs.declared.class.Class.{Class}
 use Rattle.market.specs.declared.class.Class.TheVariants.{Bond}
 use Rattle.market.specs.declared.price.Price.{Price}
@@ -20,8 +21,7 @@ abbrev pub most_securities : ℕ
 most_securities = 64
 
 abbrev pub has_code : ℕ → List ListEntry → Bool
-has_code c [] = false
-has_code c (e ∷ es) = e.code == c || has_code c es
+has_code c es = list_any (λ e. e.code == c) es
 
 -- the class is known, and the code one of its own
 abbrev pub fits_class : Option Class → ℕ → Bool
@@ -61,8 +61,7 @@ listed [] = []
 listed (e ∷ es) = security e ∷ listed es
 
 abbrev pub find_listed : List Security → ℕ → Option Security
-find_listed [] c = None
-find_listed (s ∷ ss) c = cond (s.code == c) (Some s) (find_listed ss c)
+find_listed ss c = find (λ s. s.code == c) ss
 
 abbrev pub quoted : Security → Price → Bool
 quoted s p = nat_le s.low.number p.number && (nat_le p.number s.high.number && on_step s.class p)

@@ -1,11 +1,9 @@
-use Rattle.std.proofs.Common.{rules, ◌≡◌, ◌∙◌}
-use Rattle.std.proofs.iter.runs.Made.{chains}
-use Rattle.std.specs.List.{find}
-use Rattle.std.proofs.Common.{eqb}
-use Rattle.lookups.proofs.Seeking.{find_is_listed}
+use Rattle.std.proofs.Common.{rules, eqb, ◌∙◌}
+use Rattle.std.proofs.lemmas.Iterator.{YieldsList-from_slice}
+use Rattle.std.proofs.lemmas.Iterator.Search.{find_from_yields_List}
 use Rattle.lookups.proofs.securities.find_listed.Goals as goal
 
 pub returns : goal.returns
 returns c =
-    let h : c.copied.result ≡ find (λ s. eqb s.code c.args.code) c.args.securities.now = search (rules, chains, c.iter.ensures.runs, c.find.ensures.runs) in
-    h ∙ find_is_listed c.args.code c.args.securities.now
+    c.copied.ensures
+    ∙ find_from_yields_List (λ s. eqb s.code c.args.code) _ _ _ c.find.ensures.ran (YieldsList-from_slice c.args.securities.now cc) (λ x b q k. search rules)
