@@ -1,4 +1,7 @@
 -- How a floor stands.
+--   state f                 the state that the floor f stands for
+--   room f                  how many pairs its ledger can still open
+--   whole f                 both together
 --   view book contents f    the state that the floor f stands for, given what its ledger and its tape mean
 --   room_of room f          how many pairs its ledger can still open
 --   desk book room contents f   both together
@@ -23,6 +26,15 @@ room_of room f = room f.ledger
 
 abbrev pub desk : {L T : Type 0} {K : LedgerGhosts L} {H : TapeGhosts T} → (L → Book) → (L → Room) → (T → Contents) → Floor L T K H → Desk
 desk book room contents f = record { state = view book contents f; room = room_of room f }
+
+abbrev pub state : {L T : Type 0} {K : LedgerGhosts L} {H : TapeGhosts T} → Floor L T K H → State
+state {K = K} {H = H} f = view K.book H.contents f
+
+abbrev pub room : {L T : Type 0} {K : LedgerGhosts L} {H : TapeGhosts T} → Floor L T K H → Room
+room {K = K} f = room_of K.room f
+
+abbrev pub whole : {L T : Type 0} {K : LedgerGhosts L} {H : TapeGhosts T} → Floor L T K H → Desk
+whole {K = K} {H = H} f = desk K.book K.room H.contents f
 
 abbrev pub ledger_of : {L T : Type 0} {K : LedgerGhosts L} {H : TapeGhosts T} → Floor L T K H → L
 ledger_of f = f.ledger

@@ -3,7 +3,7 @@ ghost use Rattle.rules.specs.Calls.{cancel_answer, cancelled};
 ghost use Rattle.rules.specs.Replies.{counted, more_lines, left_by};
 ghost use Rattle.rules.specs.Effects.{effect};
 ghost use Rattle.rules.specs.declared.event.Event.TheVariants.{Cancelled};
-ghost use Rattle.floor.specs.View.{view, room_of};
+ghost use Rattle.floor.specs.View.{state, room};
 
 use crate::floor::Floor;
 use deciding::order_line;
@@ -18,8 +18,8 @@ impl<L: Ledger, T: Tape> Floor<L, T> {
     // Nothing of the order at place k is live any more; what it needed is free again.
     pub(crate) fn cancelled(&mut self, k: usize, reason: CancelReason, time: u32)
         requires { k < vec_len self.old.day.table.orders }
-        ensures after { view L.Ledger.book T.Tape.contents self.new ≡ effect (view L.Ledger.book T.Tape.contents self.old) (Cancelled k reason time) }
-        ensures room { room_of L.Ledger.room self.new ≡ room_of L.Ledger.room self.old }
+        ensures after { state self.new ≡ effect (state self.old) (Cancelled k reason time) }
+        ensures room { room self.new ≡ room self.old }
     {
         let x = self.day.table.orders[k];
         let item = item_of(&x.order);
@@ -32,10 +32,10 @@ impl<L: Ledger, T: Tape> Floor<L, T> {
     }
 
     pub fn cancel(&mut self, cancel: CancelOrder) -> Result<usize, Refused>
-        ensures answer { result ≡ counted (cancel_answer (view L.Ledger.book T.Tape.contents self.old) cancel) (more_lines (view L.Ledger.book T.Tape.contents self.old) (cancelled (view L.Ledger.book T.Tape.contents self.old) cancel)) }
-        ensures after { view L.Ledger.book T.Tape.contents self.new ≡ left_by result (view L.Ledger.book T.Tape.contents self.old) (cancelled (view L.Ledger.book T.Tape.contents self.old) cancel) }
-        ensures refused_changes_nothing { is_ok result ≡ false → view L.Ledger.book T.Tape.contents self.new ≡ view L.Ledger.book T.Tape.contents self.old }
-        ensures room { room_of L.Ledger.room self.new ≡ room_of L.Ledger.room self.old }
+        ensures answer { result ≡ counted (cancel_answer (state self.old) cancel) (more_lines (state self.old) (cancelled (state self.old) cancel)) }
+        ensures after { state self.new ≡ left_by result (state self.old) (cancelled (state self.old) cancel) }
+        ensures refused_changes_nothing { is_ok result ≡ false → state self.new ≡ state self.old }
+        ensures room { room self.new ≡ room self.old }
     {
         let asked = check_asked(&self.day, &cancel)?;
         let place = check_target(&self.day, &asked)?;

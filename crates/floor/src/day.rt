@@ -4,7 +4,7 @@ ghost use Rattle.rules.specs.Dealing.{close_events};
 ghost use Rattle.rules.specs.Effects.{effects};
 ghost use Rattle.rules.specs.Listing.{listed};
 ghost use Rattle.rules.specs.Replies.{counted, more_lines, left_by, entry_named, PointsAtFault};
-ghost use Rattle.floor.specs.View.{view, room_of};
+ghost use Rattle.floor.specs.View.{state, room};
 
 use crate::floor::Floor;
 use floor_day::check_opening;
@@ -33,11 +33,11 @@ fn list_all(securities: &mut Vec<Security>, list: &[ListEntry])
 impl<L: Ledger, T: Tape> Floor<L, T> {
     // An opening empties the table and begins the tape; it writes no line.
     pub fn open(&mut self, date: u64, list: &[ListEntry]) -> Result<usize, Refused>
-        ensures answer { result ≡ counted (open_answer (view L.Ledger.book T.Tape.contents self.old) date list.now (entry_named result)) 0 }
+        ensures answer { result ≡ counted (open_answer (state self.old) date list.now (entry_named result)) 0 }
         ensures names_fault { PointsAtFault result list.now }
-        ensures after { view L.Ledger.book T.Tape.contents self.new ≡ left_by result (view L.Ledger.book T.Tape.contents self.old) (opened (view L.Ledger.book T.Tape.contents self.old) date list.now) }
-        ensures refused_changes_nothing { is_ok result ≡ false → view L.Ledger.book T.Tape.contents self.new ≡ view L.Ledger.book T.Tape.contents self.old }
-        ensures room { room_of L.Ledger.room self.new ≡ room_of L.Ledger.room self.old }
+        ensures after { state self.new ≡ left_by result (state self.old) (opened (state self.old) date list.now) }
+        ensures refused_changes_nothing { is_ok result ≡ false → state self.new ≡ state self.old }
+        ensures room { room self.new ≡ room self.old }
     {
         let day = check_opening(&self.day, &self.ledger, date, list)?;
         // The date is in range, so that it is never refused.
@@ -54,8 +54,8 @@ impl<L: Ledger, T: Tape> Floor<L, T> {
 
     // Every live order is cancelled, in the table's sequence.
     fn cancel_all(&mut self)
-        ensures after { view L.Ledger.book T.Tape.contents self.new ≡ effects (view L.Ledger.book T.Tape.contents self.old) (close_events self.old.day.table.orders.items) }
-        ensures room { room_of L.Ledger.room self.new ≡ room_of L.Ledger.room self.old }
+        ensures after { state self.new ≡ effects (state self.old) (close_events self.old.day.table.orders.items) }
+        ensures room { room self.new ≡ room self.old }
     {
         let n = self.day.table.orders.len();
         for k in 0..n {
@@ -66,14 +66,12 @@ impl<L: Ledger, T: Tape> Floor<L, T> {
     }
 
     pub fn close(&mut self) -> Result<usize, Refused>
-        ensures answer { result ≡ counted (close_answer (view L.Ledger.book T.Tape.contents self.old)) (more_lines (view L.Ledger.book T.Tape.contents self.old) (closed (view L.Ledger.book T.Tape.contents self.old))) }
-        ensures after { view L.Ledger.book T.Tape.contents self.new ≡ left_by result (view L.Ledger.book T.Tape.contents self.old) (closed (view L.Ledger.book T.Tape.contents self.old)) }
-        ensures refused_changes_nothing { is_ok result ≡ false → view L.Ledger.book T.Tape.contents self.new ≡ view L.Ledger.book T.Tape.contents self.old }
-        ensures room { room_of L.Ledger.room self.new ≡ room_of L.Ledger.room self.old }
+        ensures answer { result ≡ counted (close_answer (state self.old)) (more_lines (state self.old) (closed (state self.old))) }
+        ensures after { state self.new ≡ left_by result (state self.old) (closed (state self.old)) }
+        ensures refused_changes_nothing { is_ok result ≡ false → state self.new ≡ state self.old }
+        ensures room { room self.new ≡ room self.old }
     {
-        if !self.day.is_open {
-            return Err(Refused::Floor(Refusal::DayNotOpen));
-        }
+        self.day.check_open()?;
         let before = self.tape.count();
         self.cancel_all();
         self.day.is_open = false;

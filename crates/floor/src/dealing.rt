@@ -4,7 +4,7 @@ ghost use Rattle.market.specs.declared.kinds.OrderKind.TheVariants.{Negotiated};
 ghost use Rattle.rules.specs.Checks.{is_kind};
 ghost use Rattle.rules.specs.Effects.{effect, agreement};
 ghost use Rattle.rules.specs.declared.event.Event.TheVariants.{Dealt};
-ghost use Rattle.floor.specs.View.{view, room_of};
+ghost use Rattle.floor.specs.View.{state, room};
 
 use crate::floor::Floor;
 use deciding::order_line;
@@ -21,7 +21,7 @@ fn note_agreement(agreed: &mut Vec<Agreement>, b: &Standing, s: &Standing)
     ensures bound { vec_len agreed.new ≤ vec_len agreed.old + 1 }
     ensures capacity { vec_capacity agreed.new ≡ vec_capacity agreed.old }
 {
-    if b.order.kind.number() == OrderKind::Negotiated.number() {
+    if b.order.kind == OrderKind::Negotiated {
         agreed.push_reserved(Agreement {
             buyer: b.order.unit,
             seller: s.order.unit,
@@ -42,8 +42,8 @@ impl<L: Ledger, T: Tape> Floor<L, T> {
         requires buyer { buyer < vec_len self.old.day.table.orders }
         requires seller { seller < vec_len self.old.day.table.orders }
         requires few { self.old.day.deals < vec_len self.old.day.table.orders }
-        ensures after { view L.Ledger.book T.Tape.contents self.new ≡ effect (view L.Ledger.book T.Tape.contents self.old) (Dealt buyer seller q time) }
-        ensures room { room_of L.Ledger.room self.new ≡ room_of L.Ledger.room self.old }
+        ensures after { state self.new ≡ effect (state self.old) (Dealt buyer seller q time) }
+        ensures room { room self.new ≡ room self.old }
     {
         let b = self.day.table.orders[buyer];
         let s = self.day.table.orders[seller];

@@ -4,7 +4,7 @@ ghost use Rattle.rules.specs.Replies.{counted, more_lines, left_by};
 ghost use Rattle.rules.specs.Effects.{effect};
 ghost use Rattle.rules.specs.declared.event.Event.TheVariants.{Entered};
 ghost use Rattle.floor_day.specs.Days.{taken};
-ghost use Rattle.floor.specs.View.{view, room_of};
+ghost use Rattle.floor.specs.View.{state, room};
 
 use crate::floor::Floor;
 use deciding::{decide, order_line};
@@ -17,9 +17,9 @@ use tape::{Line, Tape};
 impl<L: Ledger, T: Tape> Floor<L, T> {
     // The order stands behind the table, all of it live; the ledger holds what it needs, the tape tells of it.
     pub(crate) fn entered(&mut self, o: Order)
-        requires { taken (view L.Ledger.book T.Tape.contents self.old) + 2 ≤ 512 }
-        ensures after { view L.Ledger.book T.Tape.contents self.new ≡ effect (view L.Ledger.book T.Tape.contents self.old) (Entered o) }
-        ensures room { room_of L.Ledger.room self.new ≡ room_of L.Ledger.room self.old }
+        requires { taken (state self.old) + 2 ≤ 512 }
+        ensures after { state self.new ≡ effect (state self.old) (Entered o) }
+        ensures room { room self.new ≡ room self.old }
     {
         let item = item_of(&o);
         let amount = amount_of(&o, o.quantity);
@@ -34,10 +34,10 @@ impl<L: Ledger, T: Tape> Floor<L, T> {
     }
 
     pub fn enter(&mut self, entry: Entry) -> Result<usize, Refused>
-        ensures answer { result ≡ counted (enter_answer (view L.Ledger.book T.Tape.contents self.old) entry) (more_lines (view L.Ledger.book T.Tape.contents self.old) (entered (view L.Ledger.book T.Tape.contents self.old) entry)) }
-        ensures after { view L.Ledger.book T.Tape.contents self.new ≡ left_by result (view L.Ledger.book T.Tape.contents self.old) (entered (view L.Ledger.book T.Tape.contents self.old) entry) }
-        ensures refused_changes_nothing { is_ok result ≡ false → view L.Ledger.book T.Tape.contents self.new ≡ view L.Ledger.book T.Tape.contents self.old }
-        ensures room { room_of L.Ledger.room self.new ≡ room_of L.Ledger.room self.old }
+        ensures answer { result ≡ counted (enter_answer (state self.old) entry) (more_lines (state self.old) (entered (state self.old) entry)) }
+        ensures after { state self.new ≡ left_by result (state self.old) (entered (state self.old) entry) }
+        ensures refused_changes_nothing { is_ok result ≡ false → state self.new ≡ state self.old }
+        ensures room { room self.new ≡ room self.old }
     {
         let order = check_entry(&self.day, &self.ledger, &self.tape, &entry)?;
         let before = self.tape.count();

@@ -1,6 +1,6 @@
 -- Checks in parts, and what the exits of a call come to.
-use Rattle.std.proofs.Common.{◌≡◌, ℕ, ◌+◌, Bool, true, false, cond, not, leb, List, is_ok, IsErrAnd, IfOk, Some, None, Ok, Err, Option, Result, sym, refl, ap, ◌∙◌, arith}
-use Rattle.std.proofs.lemmas.Bool.{false≢true}
+use Rattle.std.proofs.Common.{◌≡◌, ℕ, ◌+◌, Bool, true, false, cond, not, leb, List, IsErrAnd, Some, None, Ok, Err, Option, Result, sym, refl, ap, ◌∙◌, arith}
+use Rattle.std.specs.Option.{ok_or}
 use Rattle.market.specs.declared.kinds.Sort.{Sort}
 use Rattle.market.specs.declared.kinds.Sort.TheVariants.{Intention as intentions, FirmQuote as firm_quotes, DealOrder}
 use Rattle.market.specs.declared.kinds.OrderKind.{OrderKind}
@@ -28,10 +28,19 @@ use Rattle.ledger.specs.Moves.{Answer as Moved}
 use Rattle.floor_day.specs.Parts.{then, told, names_answer, space_answer, listed_parts, asked_answer, target_answer, widened, paying_checks}
 
 -- a check that hands on the refusal of another
-pub refused_check : {X : Type 0} (r : Result X Refused) (e : Refused) (a : Answer) (P : X → Type 0) (Q : Type 0) → IsErrAnd r (λ y. y ≡ e) → Err e ≡ a →
-    (told r ≡ a) × IfOk r P × (is_ok r ≡ true → Q)
-refused_check (Ok x) e a P Q q p = absurd q
-refused_check (Err y) e a P Q q p = (ap Err q ∙ p, tt, λ f. absurd (false≢true f))
+pub refused_is : {X : Type 0} (r : Result X Refused) (e : Refused) (a : Answer) → IsErrAnd r (λ y. y ≡ e) → Err e ≡ a → told r ≡ a
+refused_is (Ok x) e a q p = absurd q
+refused_is (Err y) e a q p = ap Err q ∙ p
+
+-- a check that passed
+pub passed : (b : Bool) (e : Refusal) → Ok tt ≡ unless b e (Ok tt) → b ≡ true
+passed true e h = refl
+passed false e h = let z : ◌≡◌ {A = ℕ} 0 1 = cc in absurd (omega arith)
+
+-- a value that was there
+pub found_is : {X E : Type 0} (r : Option X) (e : E) (x : X) → Ok x ≡ ok_or r e → r ≡ Some x
+found_is None e x h = let z : ◌≡◌ {A = ℕ} 0 1 = cc in absurd (omega arith)
+found_is (Some y) e x h = cc
 
 then_unless : (b : Bool) (e : Refusal) (r q : Answer) → then (unless b e r) q ≡ unless b e (then r q)
 then_unless true e r q = refl

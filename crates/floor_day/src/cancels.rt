@@ -12,10 +12,7 @@ use rules::{CancelOrder, Refused, Security};
 fn is_in_hours(security: Option<Security>, time: u32) -> bool
     ensures { result ≡ in_hours security time }
 {
-    match security {
-        None => false,
-        Some(s) => s.class.trades_at(time),
-    }
+    security.is_some_and(|s| s.class.trades_at(time))
 }
 
 // The cancel, if a day is open and its figures are in range.
@@ -23,13 +20,8 @@ pub fn check_asked(day: &Day, c: &CancelOrder) -> Result<Cancelling, Refused>
     ensures answer { told result ≡ asked_answer day.now.is_open c.now }
     ensures found { IfOk result (λ x. x ≡ cancelling c.now) }
 {
-    if !day.is_open {
-        return Err(Refused::Floor(Refusal::DayNotOpen));
-    }
-    match cancel_for(c) {
-        Some(asked) => Ok(asked),
-        None => Err(Refused::Floor(Refusal::OutOfRange)),
-    }
+    day.check_open()?;
+    Ok(cancel_for(c).ok_or(Refusal::OutOfRange)?)
 }
 
 // The place of the order that a cancel names.
@@ -40,9 +32,7 @@ pub fn check_target(day: &Day, c: &Cancelling) -> Result<usize, Refused>
     if serial_is_used(&day.table.orders, &day.table.cancels, c.unit, c.serial) {
         return Err(Refused::Floor(Refusal::SerialUsed));
     }
-    let Some(k) = find_order(&day.table.orders, c.sort, c.unit, c.target) else {
-        return Err(Refused::Floor(Refusal::NoSuchOrder));
-    };
+    let k = find_order(&day.table.orders, c.sort, c.unit, c.target).ok_or(Refusal::NoSuchOrder)?;
     let x = day.table.orders[k];
     if !is_live(&x) {
         return Err(Refused::Floor(Refusal::NotLive));

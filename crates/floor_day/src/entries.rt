@@ -5,6 +5,7 @@ ghost use Rattle.rules.specs.Orders.{live_count};
 ghost use Rattle.floor_day.specs.Days.{state_of, taken};
 ghost use Rattle.floor_day.specs.Parts.{told, names_answer, space_answer, listed_parts};
 
+use crate::space::lines_left;
 use crate::tables::{Day, OrderTable, PLACES};
 use ledger::Ledger;
 use lookups::{find_listed, live_count, number_is_free, serial_is_used};
@@ -45,7 +46,7 @@ fn check_space<T: Tape>(table: &OrderTable, tape: &T) -> Result<(), Refused>
     if free < live + 2 {
         return Err(Refused::Floor(Refusal::TooFewPlaces));
     }
-    if tape.capacity().saturating_sub(tape.count()) < live + 3 {
+    if lines_left(tape) < live + 3 {
         return Err(Refused::Floor(Refusal::TooFewLines));
     }
     Ok(())
@@ -79,15 +80,9 @@ pub fn check_entry<L: Ledger, T: Tape>(
     ensures order { IfOk result (λ o. o ≡ order_for day.now.table.orders.items e.now) }
     ensures space { is_ok result ≡ true → taken (state_of day.now (L.Ledger.book ledger.now) (T.Tape.contents tape.now)) + 2 ≤ 512 }
 {
-    if !day.is_open {
-        return Err(Refused::Floor(Refusal::DayNotOpen));
-    }
-    let Some(order) = order_for(&day.table.orders, e) else {
-        return Err(Refused::Floor(Refusal::OutOfRange));
-    };
-    let Some(security) = find_listed(&day.securities, order.security) else {
-        return Err(Refused::Floor(Refusal::NotListed));
-    };
+    day.check_open()?;
+    let order = order_for(&day.table.orders, e).ok_or(Refusal::OutOfRange)?;
+    let security = find_listed(&day.securities, order.security).ok_or(Refusal::NotListed)?;
     check_listed(day, ledger, tape, &security, &order)?;
     Ok(order)
 }

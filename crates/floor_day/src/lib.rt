@@ -5,6 +5,7 @@ mod cancels;
 mod entries;
 mod openings;
 mod payments;
+mod space;
 mod tables;
 
 pub use cancels::{check_asked, check_target};

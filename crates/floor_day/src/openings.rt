@@ -24,12 +24,8 @@ pub fn check_opening<L: Ledger>(
     if day.is_open {
         return Err(Refused::Floor(Refusal::DayOpen));
     }
-    let Some(begins) = opening_date(date, day.last_date) else {
-        return Err(Refused::Floor(Refusal::BadDate));
-    };
-    if let Err(k) = check_list(list) {
-        return Err(Refused::List(k));
-    }
+    let begins = opening_date(date, day.last_date).ok_or(Refusal::BadDate)?;
+    check_list(list).map_err(Refused::List)?;
     if ledger.any_money_held() || ledger.any_security_held() {
         return Err(Refused::Floor(Refusal::SomethingHeld));
     }

@@ -1,12 +1,14 @@
-ghost use Rattle.std.specs.Prelude.{◌≡◌, ◌<◌, vec_len, vec_capacity, slice_index_or, slice_set};
+ghost use Rattle.std.specs.Prelude.{◌≡◌, Ok, ◌<◌, vec_len, vec_capacity, slice_index_or, slice_set};
 ghost use Rattle.std.specs.Borrow.{sem, follows};
 ghost use Rattle.std.specs.Vec.{with_item};
 ghost use Rattle.rules.specs.contracts.order.Standing.{the_row as standing_row};
+ghost use Rattle.market.specs.declared.refusal.Refusal.TheVariants.{DayNotOpen};
+ghost use Rattle.rules.specs.Calls.{unless};
 ghost use Rattle.rules.specs.Orders.{order_at, with_live};
 ghost use Rattle.floor_day.specs.contracts.tables.OrderTable.{the_row};
 
-use market::Quantity;
-use rules::{Agreement, Name, Security, Standing};
+use market::{Quantity, Refusal};
+use rules::{Agreement, Name, Refused, Security, Standing};
 
 // The orders and the cancels of a day take at most so many places together.
 pub const PLACES: usize = 512;
@@ -29,16 +31,20 @@ pub struct Day {
     pub deals: u32,
 }
 
-impl OrderTable {
-    // One order, lent to be changed.
-    fn order_at(&mut self, k: usize) -> &mut Standing
-        requires { k < vec_len self.old.orders }
-        ensures* follows { sem 𝓛 (follows the_row standing_row self.entry.ghost_name result.ghost_name (λ w. record { orders = with_item self.old.orders k w; cancels = self.old.cancels })) }
-        ensures value { result.now ≡ slice_index_or self.old.orders.items k result.now }
+impl Day {
+    // Whether a day is open, as the calls but an opening ask.
+    pub fn check_open(&self) -> Result<(), Refused>
+        ensures { result ≡ unless self.now.is_open DayNotOpen (Ok tt) }
     {
-        &mut self.orders[k]
+        if self.is_open {
+            Ok(())
+        } else {
+            Err(Refused::Floor(Refusal::DayNotOpen))
+        }
     }
+}
 
+impl OrderTable {
     // So much of the order at place k is live from now on, if there is one; nothing else changes.
     pub fn set_live(&mut self, k: usize, n: Quantity)
         ensures orders { self.new.orders.items ≡ slice_set self.old.orders.items k (with_live (order_at self.old.orders.items k) n.number) }
@@ -46,9 +52,8 @@ impl OrderTable {
         ensures capacity { vec_capacity self.new.orders ≡ vec_capacity self.old.orders }
         ensures cancels { self.new.cancels ≡ self.old.cancels }
     {
-        if k >= self.orders.len() {
-            return;
+        if let Some(x) = self.orders.get_mut(k) {
+            x.live = n;
         }
-        self.order_at(k).live = n;
     }
 }

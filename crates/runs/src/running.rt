@@ -1,6 +1,6 @@
 ghost use Rattle.std.specs.Prelude.{◌≡◌, false, is_ok, IfOk};
 ghost use Rattle.rules.specs.Replies.{Replied, left_by, accepted};
-ghost use Rattle.floor.specs.View.{view, room_of, desk};
+ghost use Rattle.floor.specs.View.{state, room, whole};
 ghost use Rattle.whole_runs.specs.Law.{Law, new_desk};
 ghost use Rattle.runs.specs.Acts.{act_of, steps_of, outcomes_of, no_sharing};
 
@@ -13,10 +13,10 @@ use tape::Tape;
 
 // Makes a call, whichever it is.
 pub fn take<L: Ledger, T: Tape>(floor: &mut Floor<L, T>, call: &Call) -> Result<usize, Refused>
-    ensures answer { Replied (view L.Ledger.book T.Tape.contents floor.old) (act_of call.now) result }
-    ensures after { view L.Ledger.book T.Tape.contents floor.new ≡ left_by result (view L.Ledger.book T.Tape.contents floor.old) (accepted (view L.Ledger.book T.Tape.contents floor.old) (act_of call.now)) }
-    ensures refused_changes_nothing { is_ok result ≡ false → view L.Ledger.book T.Tape.contents floor.new ≡ view L.Ledger.book T.Tape.contents floor.old }
-    ensures room { room_of L.Ledger.room floor.new ≡ room_of L.Ledger.room floor.old }
+    ensures answer { Replied (state floor.old) (act_of call.now) result }
+    ensures after { state floor.new ≡ left_by result (state floor.old) (accepted (state floor.old) (act_of call.now)) }
+    ensures refused_changes_nothing { is_ok result ≡ false → state floor.new ≡ state floor.old }
+    ensures room { room floor.new ≡ room floor.old }
 {
     match call {
         Call::Open(opening) => floor.open(opening.date, &opening.securities),
@@ -36,7 +36,7 @@ pub fn run<L: Ledger + Drop, T: Tape + Drop>(
     tape: T,
     calls: &[Call],
 ) -> Result<(Floor<L, T>, Vec<Result<usize, Refused>>), AllocError>
-    ensures law { IfOk result (λ p. Law no_sharing (new_desk (L.Ledger.book ledger) (L.Ledger.room ledger) (T.Tape.contents tape)) (steps_of calls.now) (outcomes_of p.1.items) (desk L.Ledger.book L.Ledger.room T.Tape.contents p.0)) }
+    ensures law { IfOk result (λ p. Law no_sharing (new_desk (L.Ledger.book ledger) (L.Ledger.room ledger) (T.Tape.contents tape)) (steps_of calls.now) (outcomes_of p.1.items) (whole p.0)) }
 {
     let mut answers = Vec::with_capacity(heap, calls.len())?;
     let mut floor = Floor::new(heap, ledger, tape)?;

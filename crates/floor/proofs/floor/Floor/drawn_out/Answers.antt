@@ -1,22 +1,14 @@
 use Rattle.floor.specs.View.{view}
-use Rattle.floor.proofs.Effects.{with_all, drawn_refused, drawn_effect}
+use Rattle.floor.proofs.Effects.{with_all, drawn_refused, drawn_effect, not_moved}
 use Rattle.floor.proofs.floor.Floor.drawn_out.Goals as goal
 
-pub returns-in-Err : goal.returns-in-Err
-returns-in-Err g c =
+pub returns-in_err-draw_out-clause-after : goal.returns-in_err-draw_out-clause-after
+returns-in_err-draw_out-clause-after g c =
     let s = view g.L.Ledger.book g.T.Tape.contents c.args.self.now in
-    let b = drawn_refused s.book _ _ _ _ c.in-Err.e c.in-Err.ensures.answer c.draw_out.ensures.after in
-    record {
-      answer = c.in-Err.ensures.answer;
-      after = λ i. with_all s s.orders s.cancels s.agreed s.deals (b i) s.tape;
-      room = c.draw_out.ensures.room;
-    }
+    let b = drawn_refused s.book _ _ _ _ _ c.in_err-draw_out.ensures.answer c.in_err-draw_out.ensures.after in
+    not_moved _ _ s _ _ c.from_residual.ensures.1 (λ i. with_all s s.orders s.cancels s.agreed s.deals (b i) s.tape)
 
-pub returns-in-Ok : goal.returns-in-Ok
-returns-in-Ok g c =
+pub returns-clause-after : goal.returns-clause-after
+returns-clause-after g c =
     let s = view g.L.Ledger.book g.T.Tape.contents c.args.self.now in
-    record {
-      answer = c.in-Ok.ensures.answer;
-      after = drawn_effect s c.args.p _ _ c.draw_out.ensures.after c.append.ensures.after;
-      room = c.draw_out.ensures.room;
-    }
+    drawn_effect s c.args.p _ _ c.in_ok-draw_out.ensures.after c.append.ensures.after
