@@ -6,6 +6,7 @@
 --   line_paired ls l    if l is a deal line: its number stands in one buying and one selling line, and both agree with l
 --   all_paired ls xs    so it is with every line of xs
 use Rattle.std.specs.Prelude.{ℕ, Bool, true, false, ◌&&◌, List, [], ◌∷◌, count_by, ◌==◌}
+use Rattle.std.specs.List.{list_all}
 use Rattle.market.specs.declared.kinds.Side.TheVariants.{Buy, Sell}
 use Rattle.tape.specs.declared.line.OrderLine.{OrderLine}
 use Rattle.tape.specs.declared.line.Line.{Line}
@@ -42,5 +43,4 @@ line_paired ls (PaidIn p) = true
 line_paired ls (DrawnOut p) = true
 
 abbrev pub all_paired : List Line → List Line → Bool
-all_paired ls [] = true
-all_paired ls (l ∷ xs) = line_paired ls l && all_paired ls xs
+all_paired ls xs = list_all (line_paired ls) xs

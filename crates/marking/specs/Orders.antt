@@ -4,6 +4,7 @@
 --   orders ls         the orders that lines name, each once, in the sequence of their first lines
 --   account ls n      what the lines enter, deal and cancel of the order n, and what that leaves live
 use Rattle.std.specs.Prelude.{Bool, true, false, cond, ◌&&◌, List, [], ◌∷◌, ◌++◌, pos, ◌-ℤ◌, fold, ◌==◌}
+use Rattle.std.specs.List.{list_any}
 use Rattle.tape.specs.declared.line.OrderLine.{OrderLine}
 use Rattle.tape.specs.declared.line.Line.{Line}
 use Rattle.tape.specs.declared.line.Line.TheVariants.{Entry, Deal, Cancel, PaidIn, DrawnOut}
@@ -15,8 +16,7 @@ abbrev pub same : Name → Name → Bool
 same m n = m.unit == n.unit && m.serial == n.serial
 
 abbrev pub has : Name → List Name → Bool
-has n [] = false
-has n (m ∷ ns) = cond (same m n) true (has n ns)
+has n ns = list_any (λ m. same m n) ns
 
 abbrev pub name_of : OrderLine → Name
 name_of o = record { unit = o.unit; serial = o.serial }

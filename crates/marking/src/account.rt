@@ -3,7 +3,7 @@ ghost use Rattle.laws.specs.Accounts.{of_line, enters, deals, cancels};
 ghost use Rattle.marking.specs.Orders.{account};
 
 use rules::Name;
-use tape::{Line, OrderLine, ReadingTape};
+use tape::{Line, OrderLine, ReadingTape, lines_of};
 
 // What the lines of a tape tell of one order. A tape that no floor wrote may deal and cancel more than was entered.
 #[derive(Clone, Copy)]
@@ -58,11 +58,7 @@ pub fn account_of<T: ReadingTape>(tape: &T, name: Name) -> OrderAccount
     let mut quantity = 0;
     let mut dealt = 0;
     let mut cancelled = 0;
-    for k in 0..tape.count() {
-        let line = match tape.read(k) {
-            Ok(line) => line,
-            Err(_) => unreachable(),
-        };
+    for line in lines_of(tape) {
         quantity += entered_by(&line, name);
         dealt += dealt_by(&line, name);
         cancelled += cancelled_by(&line, name);

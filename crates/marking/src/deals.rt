@@ -3,7 +3,7 @@ ghost use Rattle.laws.specs.Agreed.{same_side};
 ghost use Rattle.marking.specs.Deals.{alike, answers, how_many, pair_of, line_paired, all_paired};
 
 use market::Side;
-use tape::{Line, OrderLine, ReadingTape};
+use tape::{Line, OrderLine, ReadingTape, lines_of};
 
 // Which lines of a deal are asked for: those of a side, or those that agree with a line of it.
 #[derive(Clone, Copy)]
@@ -15,25 +15,14 @@ enum Asked {
 fn is_same_side(a: Side, b: Side) -> bool
     ensures { result ≡ same_side a b }
 {
-    match a {
-        Side::Buy => match b {
-            Side::Buy => true,
-            Side::Sell => false,
-        },
-        Side::Sell => match b {
-            Side::Buy => false,
-            Side::Sell => true,
-        },
-    }
+    a == b
 }
 
 // In security, quantity and price.
 fn is_alike(a: &OrderLine, b: &OrderLine) -> bool
     ensures { result ≡ alike a.now b.now }
 {
-    a.security == b.security
-        && a.quantity.get() == b.quantity.get()
-        && a.price.get() == b.price.get()
+    a.security == b.security && a.quantity == b.quantity && a.price == b.price
 }
 
 fn is_asked(asked: &Asked, line: &Line) -> bool
@@ -51,17 +40,7 @@ fn is_asked(asked: &Asked, line: &Line) -> bool
 fn how_many<T: ReadingTape>(tape: &T, asked: Asked) -> usize
     ensures { result ≡ how_many (T.Tape.contents tape.now).lines asked }
 {
-    let mut found = 0;
-    for k in 0..tape.count() {
-        let line = match tape.read(k) {
-            Ok(line) => line,
-            Err(_) => unreachable(),
-        };
-        if is_asked(&asked, &line) {
-            found += 1;
-        }
-    }
-    found
+    lines_of(tape).filter(|line| is_asked(&asked, line)).count()
 }
 
 fn is_pair(buying: usize, selling: usize, alike: usize) -> bool
@@ -89,11 +68,7 @@ fn is_paired<T: ReadingTape>(tape: &T, line: &Line) -> bool
 pub fn deals_paired<T: ReadingTape>(tape: &T) -> bool
     ensures { result ≡ all_paired (T.Tape.contents tape.now).lines (T.Tape.contents tape.now).lines }
 {
-    for k in 0..tape.count() {
-        let line = match tape.read(k) {
-            Ok(line) => line,
-            Err(_) => unreachable(),
-        };
+    for line in lines_of(tape) {
         if !is_paired(tape, &line) {
             return false;
         }

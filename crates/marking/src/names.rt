@@ -1,26 +1,9 @@
 ghost use Rattle.std.specs.Prelude.{◌≡◌, IfOk, OnOk};
-ghost use Rattle.marking.specs.Orders.{same, has, noted, noted_line, orders};
+ghost use Rattle.marking.specs.Orders.{noted, noted_line, orders};
 
 use rules::Name;
 use std::alloc::{AllocError, Global};
-use tape::{Line, OrderLine, ReadingTape};
-
-fn is_same(a: &Name, b: Name) -> bool
-    ensures { result ≡ same a.now b }
-{
-    a.unit == b.unit && a.serial == b.serial
-}
-
-fn has_name(names: &[Name], name: Name) -> bool
-    ensures { result ≡ has name names.now }
-{
-    for other in names {
-        if is_same(other, name) {
-            return true;
-        }
-    }
-    false
-}
+use tape::{Line, OrderLine, ReadingTape, lines_of};
 
 // Adds the name of an order that was not seen yet.
 fn note(names: &mut Vec<Name>, o: &OrderLine) -> Result<(), AllocError>
@@ -30,7 +13,7 @@ fn note(names: &mut Vec<Name>, o: &OrderLine) -> Result<(), AllocError>
         unit: o.unit,
         serial: o.serial,
     };
-    if !has_name(names.as_slice(), name) {
+    if !names.contains(&name) {
         names.push(name)?;
     }
     Ok(())
@@ -50,11 +33,7 @@ pub fn orders_of<T: ReadingTape>(heap: Global, tape: &T) -> Result<Vec<Name>, Al
     ensures { IfOk result (λ v. v.items ≡ orders (T.Tape.contents tape.now).lines) }
 {
     let mut names = Vec::new(heap);
-    for k in 0..tape.count() {
-        let line = match tape.read(k) {
-            Ok(line) => line,
-            Err(_) => unreachable(),
-        };
+    for line in lines_of(tape) {
         note_line(&mut names, &line)?;
     }
     Ok(names)
