@@ -12,8 +12,8 @@ pub fn opened_for<L: PairLedger>(ledger: &mut L, account: u64, item: u64) -> Res
     ensures room { L.Ledger.room ledger.new ≡ room_after result L.PairLedger.shares item (L.Ledger.room ledger.old) }
     ensures figures { SameFigures (L.Ledger.book ledger.old) (L.Ledger.book ledger.new) }
 {
-    if item > u64::from(u32::MAX) {
+    let Ok(item) = u32::try_from(item) else {
         return Err(Refusal::OutOfRange);
-    }
-    ledger.open_pair(account, item as u32)
+    };
+    ledger.open_pair(account, item)
 }

@@ -27,18 +27,19 @@ fn order_cells(name: Name, a: OrderAccount) -> [Cell; 12]
     ]
 }
 
+fn push_order<T: ReadingTape>(out: &mut String, tape: &T, name: Name) -> Result<(), AllocError>
+    ensures { OnOk result (string_bytes out.new ≡ string_bytes out.old ++ order_row (T.Tape.contents tape.now).lines name) }
+{
+    let account = account_of(tape, name);
+    push_row(out, Word::Order, &order_cells(name, account))
+}
+
 // A row for each order, by what the tape tells of it.
-fn push_orders<T: ReadingTape>(
-    heap: Global,
-    out: &mut String,
-    tape: &T,
-    names: &[Name],
-) -> Result<(), AllocError>
+fn push_orders<T: ReadingTape>(out: &mut String, tape: &T, names: &[Name]) -> Result<(), AllocError>
     ensures { OnOk result (string_bytes out.new ≡ string_bytes out.old ++ flat_map (order_row (T.Tape.contents tape.now).lines) names.now) }
 {
-    for n in names {
-        let account = account_of(tape, *n);
-        push_row(heap, out, Word::Order, &order_cells(*n, account))?;
+    for name in names {
+        push_order(out, tape, *name)?;
     }
     Ok(())
 }
@@ -50,11 +51,11 @@ fn paired_word(paired: bool) -> Word
 }
 
 // Whether every deal number has its two lines.
-fn push_deals<T: ReadingTape>(heap: Global, out: &mut String, tape: &T) -> Result<(), AllocError>
+fn push_deals<T: ReadingTape>(out: &mut String, tape: &T) -> Result<(), AllocError>
     ensures { OnOk result (string_bytes out.new ≡ string_bytes out.old ++ deals_row (T.Tape.contents tape.now).lines) }
 {
     let word = paired_word(deals_paired(tape));
-    push_row(heap, out, Word::Deals, &[Cell::Word(word)])
+    push_row(out, Word::Deals, &[Cell::Word(word)])
 }
 
 // A row for each order that the tape names, then one on the deals.
@@ -66,6 +67,6 @@ pub fn push_marks<T: ReadingTape>(
     ensures { OnOk result (string_bytes out.new ≡ string_bytes out.old ++ marks (T.Tape.contents tape.now).lines) }
 {
     let names = orders_of(heap, tape)?;
-    push_orders(heap, out, tape, names.as_slice())?;
-    push_deals(heap, out, tape)
+    push_orders(out, tape, names.as_slice())?;
+    push_deals(out, tape)
 }

@@ -1,8 +1,10 @@
-ghost use Rattle.std.specs.Prelude.{◌≡◌, ◌∷◌, ◌++◌, string_bytes, OnOk};
-ghost use Rattle.row_text.specs.Cells.{cell_text, after_blank, row_text};
+ghost use Rattle.std.specs.Prelude.{◌≡◌, ◌++◌, Some, string_bytes, OnOk};
+ghost use Rattle.row_text.specs.Cells.{cell_text, row_text};
 
 use crate::words::Word;
-use std::alloc::{AllocError, Global};
+use std::alloc::AllocError;
+use std::fmt;
+use std::fmt::Write;
 
 // What stands between two blanks of a row.
 #[derive(Clone, Copy)]
@@ -12,35 +14,25 @@ pub enum Cell {
     Signed(i64),
 }
 
-fn push_cell(heap: Global, out: &mut String, cell: Cell) -> Result<(), AllocError>
-    ensures { OnOk result (string_bytes out.new ≡ string_bytes out.old ++ cell_text cell) }
-{
-    match cell {
-        Cell::Word(word) => out.push_str(word.text()),
-        Cell::Figure(n) => out.push_str(format!(in heap; "{n}")?.as_str()),
-        Cell::Signed(z) => out.push_str(format!(in heap; "{z}")?.as_str()),
+impl fmt::Display for Cell {
+    ghost output = { λ c. Some (cell_text c) };
+
+    fn fmt<W: fmt::Write>(&self, f: &mut fmt::Formatter<W>) -> fmt::Result {
+        match self {
+            Cell::Word(word) => write!(f, "{word}"),
+            Cell::Figure(n) => write!(f, "{n}"),
+            Cell::Signed(z) => write!(f, "{z}"),
+        }
     }
 }
 
-fn push_after_blank(heap: Global, out: &mut String, cell: Cell) -> Result<(), AllocError>
-    ensures { OnOk result (string_bytes out.new ≡ string_bytes out.old ++ after_blank cell) }
-{
-    out.push_str(" ")?;
-    push_cell(heap, out, cell)
-}
-
 // A row: its first word, its cells, and the end of the line.
-pub fn push_row(
-    heap: Global,
-    out: &mut String,
-    first: Word,
-    cells: &[Cell],
-) -> Result<(), AllocError>
+pub fn push_row(out: &mut String, first: Word, cells: &[Cell]) -> Result<(), AllocError>
     ensures { OnOk result (string_bytes out.new ≡ string_bytes out.old ++ row_text first cells.now) }
 {
-    out.push_str(first.text())?;
+    write!(out, "{first}")?;
     for cell in cells {
-        push_after_blank(heap, out, *cell)?;
+        write!(out, " {cell}")?;
     }
     out.push_str("\n")
 }

@@ -1,5 +1,7 @@
-ghost use Rattle.std.specs.Prelude.{◌≡◌};
+ghost use Rattle.std.specs.Prelude.{◌≡◌, Some};
 ghost use Rattle.row_text.specs.Words.{word_text};
+
+use std::fmt;
 
 // Every word of a statement.
 #[derive(Clone, Copy)]
@@ -96,5 +98,13 @@ impl Word {
             Word::Paired => "paired",
             Word::Unpaired => "unpaired",
         }
+    }
+}
+
+impl fmt::Display for Word {
+    ghost output = { λ w. Some (word_text w) };
+
+    fn fmt<W: fmt::Write>(&self, f: &mut fmt::Formatter<W>) -> fmt::Result {
+        f.write_str(self.text())
     }
 }

@@ -1,5 +1,4 @@
 pub mod Words
-pub mod Cells
 pub mod Pairs
 pub mod Rows
 pub mod Statements

@@ -4,7 +4,8 @@
 --   noted_line ps l   ps with the pairs that the line l names: an order's account with its security,
 --                     then with money; a payment's account with its item
 --   pairs ls          the pairs that lines name, each once, in the order of first appearance
-use Rattle.std.specs.Prelude.{ℕ, Bool, true, false, cond, ◌&&◌, List, [], ◌∷◌, ◌++◌, fold, ◌==◌}
+use Rattle.std.specs.Prelude.{ℕ, Bool, cond, ◌&&◌, List, [], ◌∷◌, ◌++◌, fold, ◌==◌}
+use Rattle.std.specs.List.{list_any}
 use Rattle.tape.specs.declared.line.OrderLine.{OrderLine}
 use Rattle.tape.specs.declared.line.Line.{Line}
 use Rattle.tape.specs.declared.line.Line.TheVariants.{Entry, Deal, Cancel, PaidIn, DrawnOut}
@@ -17,8 +18,7 @@ abbrev pub same : Pair → Pair → Bool
 same q p = q.account == p.account && q.item == p.item
 
 abbrev pub has : Pair → List Pair → Bool
-has p [] = false
-has p (q ∷ ps) = cond (same q p) true (has p ps)
+has p ps = list_any (λ q. same q p) ps
 
 abbrev pub noted : List Pair → Pair → List Pair
 noted ps p = cond (has p ps) ps (ps ++ (p ∷ []))

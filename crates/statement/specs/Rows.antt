@@ -9,12 +9,12 @@ use Rattle.tape.specs.declared.net.Movement.{Movement}
 use Rattle.tape.specs.Tapes.{Contents}
 use Rattle.tape.specs.Nets.{movement_of}
 use Rattle.layout.specs.Rows.{row_of}
-use Rattle.statement.specs.declared.cells.Cell.{Cell}
-use Rattle.statement.specs.declared.cells.Cell.TheVariants.{Word, Figure, Signed}
+use Rattle.row_text.specs.declared.cells.Cell.{Cell}
+use Rattle.row_text.specs.declared.cells.Cell.TheVariants.{Word, Figure, Signed}
 use Rattle.statement.specs.declared.pairs.Pair.{Pair}
-use Rattle.statement.specs.declared.words.Word.TheVariants.{Tape, Date, Lines, Line, Deal, Reason, Unit, Serial, Item, Account, Quantity, Price, Agreement, Time, Net, Coming, Going}
+use Rattle.row_text.specs.declared.words.Word.TheVariants.{Tape, Date, Lines, Line, Deal, Reason, Unit, Serial, Item, Account, Quantity, Price, Agreement, Time, Net, Coming, Going}
 use Rattle.statement.specs.Words.{kind_word, order_words}
-use Rattle.statement.specs.Cells.{row_text}
+use Rattle.row_text.specs.Cells.{row_text}
 
 abbrev pub heading_cells : ℕ → ℕ → List Cell
 heading_cells d n = Word Date ∷ Figure d ∷ Word Lines ∷ Figure n ∷ []

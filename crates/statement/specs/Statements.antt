@@ -10,9 +10,9 @@ use Rattle.market.specs.Refusals.{refusal_number}
 use Rattle.tape.specs.Tapes.{Contents}
 use Rattle.layout.specs.Bytes.{is_tape, date_of, lines_of}
 use Rattle.byte_tape.specs.Stored.{capacity_of}
-use Rattle.statement.specs.declared.cells.Cell.TheVariants.{Figure}
-use Rattle.statement.specs.declared.words.Word.TheVariants.{Refused}
-use Rattle.statement.specs.Cells.{row_text}
+use Rattle.row_text.specs.declared.cells.Cell.TheVariants.{Figure}
+use Rattle.row_text.specs.declared.words.Word.TheVariants.{Refused}
+use Rattle.row_text.specs.Cells.{row_text}
 use Rattle.statement.specs.Pairs.{pairs}
 use Rattle.statement.specs.Rows.{heading_row, line_rows, net_row}
 

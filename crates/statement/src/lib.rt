@@ -1,7 +1,6 @@
 // The statement of a tape: its lines and its nets as rows of text.
 #![tactic(auto)]
 
-mod cells;
 mod pairs;
 mod rows;
 mod statement;

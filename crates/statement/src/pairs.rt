@@ -1,38 +1,21 @@
 ghost use Rattle.std.specs.Prelude.{◌≡◌, IfOk, OnOk};
-ghost use Rattle.statement.specs.Pairs.{same, has, noted, noted_order, noted_line, pairs};
+ghost use Rattle.statement.specs.Pairs.{noted, noted_order, noted_line, pairs};
 
 use std::alloc::{AllocError, Global};
-use tape::{Line, OrderLine, ReadingTape};
+use tape::{Line, OrderLine, ReadingTape, lines_of};
 
 // An account and an item that it may have.
-#[derive(Clone, Copy)]
+#[derive(Clone, Copy, PartialEq, Eq)]
 pub(crate) struct Pair {
     pub(crate) account: u64,
     pub(crate) item: u32,
-}
-
-fn is_same(q: &Pair, p: Pair) -> bool
-    ensures { result ≡ same q.now p }
-{
-    q.account == p.account && q.item == p.item
-}
-
-fn has_pair(pairs: &[Pair], p: Pair) -> bool
-    ensures { result ≡ has p pairs.now }
-{
-    for q in pairs {
-        if is_same(q, p) {
-            return true;
-        }
-    }
-    false
 }
 
 // Adds a pair that was not seen yet.
 fn note(pairs: &mut Vec<Pair>, p: Pair) -> Result<(), AllocError>
     ensures { OnOk result (pairs.new.items ≡ noted pairs.old.items p) }
 {
-    if !has_pair(pairs.as_slice(), p) {
+    if !pairs.contains(&p) {
         pairs.push(p)?;
     }
     Ok(())
@@ -78,11 +61,7 @@ pub(crate) fn pairs_of<T: ReadingTape>(heap: Global, tape: &T) -> Result<Vec<Pai
     ensures { IfOk result (λ v. v.items ≡ pairs (T.Tape.contents tape.now).lines) }
 {
     let mut pairs = Vec::new(heap);
-    for k in 0..tape.count() {
-        let line = match tape.read(k) {
-            Ok(line) => line,
-            Err(_) => unreachable(),
-        };
+    for line in lines_of(tape) {
         note_line(&mut pairs, &line)?;
     }
     Ok(pairs)

@@ -1,13 +1,13 @@
 ghost use Rattle.std.specs.Prelude.{◌≡◌, ◌++◌, string_bytes, OnOk};
 ghost use Rattle.std.specs.List.{flat_map};
-ghost use Rattle.statement.specs.Rows.{heading_cells, heading_row, line_cells, net_cells, line_rows, net_row};
+ghost use Rattle.statement.specs.Rows.{heading_cells, heading_row, line_cells, net_cells, line_row, line_rows, net_row};
 
-use crate::cells::{Cell, push_row};
 use crate::pairs::Pair;
-use crate::words::{Word, kind_word, order_words};
+use crate::words::{kind_word, order_words};
 use layout::Row;
-use std::alloc::{AllocError, Global};
-use tape::{Line, Movement, ReadingTape, movement_of};
+use row_text::{Cell, Word, push_row};
+use std::alloc::AllocError;
+use tape::{Line, Movement, ReadingTape, lines_of, movement_of};
 
 fn heading_cells(date: u32, count: usize) -> [Cell; 4]
     ensures { result ≡ heading_cells date count }
@@ -70,40 +70,35 @@ fn net_cells(p: Pair, m: Movement) -> [Cell; 10]
     ]
 }
 
-pub(crate) fn push_heading<T: ReadingTape>(
-    heap: Global,
-    out: &mut String,
-    tape: &T,
-) -> Result<(), AllocError>
+pub(crate) fn push_heading<T: ReadingTape>(out: &mut String, tape: &T) -> Result<(), AllocError>
     ensures { OnOk result (string_bytes out.new ≡ string_bytes out.old ++ heading_row (T.Tape.contents tape.now)) }
 {
-    push_row(
-        heap,
-        out,
-        Word::Tape,
-        &heading_cells(tape.date(), tape.count()),
-    )
+    push_row(out, Word::Tape, &heading_cells(tape.date(), tape.count()))
 }
 
-pub(crate) fn push_lines<T: ReadingTape>(
-    heap: Global,
-    out: &mut String,
-    tape: &T,
-) -> Result<(), AllocError>
+fn push_line(out: &mut String, k: usize, line: &Line) -> Result<(), AllocError>
+    ensures { OnOk result (string_bytes out.new ≡ string_bytes out.old ++ line_row k line.now) }
+{
+    push_row(out, Word::Line, &line_cells(k, line))
+}
+
+pub(crate) fn push_lines<T: ReadingTape>(out: &mut String, tape: &T) -> Result<(), AllocError>
     ensures { OnOk result (string_bytes out.new ≡ string_bytes out.old ++ line_rows 0 (T.Tape.contents tape.now).lines) }
 {
-    for k in 0..tape.count() {
-        let line = match tape.read(k) {
-            Ok(line) => line,
-            Err(_) => unreachable(),
-        };
-        push_row(heap, out, Word::Line, &line_cells(k, &line))?;
+    for (k, line) in lines_of(tape).enumerate() {
+        push_line(out, k, &line)?;
     }
     Ok(())
 }
 
+fn push_net<T: ReadingTape>(out: &mut String, tape: &T, p: Pair) -> Result<(), AllocError>
+    ensures { OnOk result (string_bytes out.new ≡ string_bytes out.old ++ net_row (T.Tape.contents tape.now).lines p) }
+{
+    let m = movement_of(tape, p.account, p.item);
+    push_row(out, Word::Net, &net_cells(p, m))
+}
+
 pub(crate) fn push_nets<T: ReadingTape>(
-    heap: Global,
     out: &mut String,
     tape: &T,
     pairs: &[Pair],
@@ -111,8 +106,7 @@ pub(crate) fn push_nets<T: ReadingTape>(
     ensures { OnOk result (string_bytes out.new ≡ string_bytes out.old ++ flat_map (net_row (T.Tape.contents tape.now).lines) pairs.now) }
 {
     for p in pairs {
-        let m = movement_of(tape, p.account, p.item);
-        push_row(heap, out, Word::Net, &net_cells(*p, m))?;
+        push_net(out, tape, *p)?;
     }
     Ok(())
 }

@@ -1,12 +1,11 @@
 ghost use Rattle.std.specs.Prelude.{◌≡◌, IfOk, string_bytes};
 ghost use Rattle.statement.specs.Statements.{statement, refusal_row, reconciliation};
 
-use crate::cells::{Cell, push_row};
 use crate::pairs::pairs_of;
 use crate::rows::{push_heading, push_lines, push_nets};
-use crate::words::Word;
 use byte_tape::{ByteTape, TapeBytes};
 use market::Refusal;
+use row_text::{Cell, Word, push_row};
 use std::alloc::{AllocError, Global};
 use tape::ReadingTape;
 
@@ -15,10 +14,10 @@ pub fn statement_of<T: ReadingTape>(heap: Global, tape: &T) -> Result<String, Al
     ensures { IfOk result (λ s. string_bytes s ≡ statement (T.Tape.contents tape.now)) }
 {
     let mut out = String::new(heap);
-    push_heading(heap, &mut out, tape)?;
-    push_lines(heap, &mut out, tape)?;
+    push_heading(&mut out, tape)?;
+    push_lines(&mut out, tape)?;
     let pairs = pairs_of(heap, tape)?;
-    push_nets(heap, &mut out, tape, pairs.as_slice())?;
+    push_nets(&mut out, tape, pairs.as_slice())?;
     Ok(out)
 }
 
@@ -27,7 +26,6 @@ fn refusal_text(heap: Global, refusal: Refusal) -> Result<String, AllocError>
 {
     let mut out = String::new(heap);
     push_row(
-        heap,
         &mut out,
         Word::Refused,
         &[Cell::Figure(refusal.number() as u64)],

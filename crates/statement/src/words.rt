@@ -1,92 +1,9 @@
 ghost use Rattle.std.specs.Prelude.{◌≡◌};
-ghost use Rattle.statement.specs.Words.{word_text, kind_word, side_word, order_word, reason_word, order_words};
+ghost use Rattle.statement.specs.Words.{kind_word, side_word, order_word, reason_word, order_words};
 
 use market::{CancelReason, OrderKind, Side};
+use row_text::Word;
 use tape::Line;
-
-// Every word of a statement.
-#[derive(Clone, Copy)]
-pub(crate) enum Word {
-    Tape,
-    Date,
-    Lines,
-    Line,
-    Entry,
-    Deal,
-    Cancel,
-    PaidIn,
-    DrawnOut,
-    Nobody,
-    Buy,
-    Sell,
-    Intention,
-    FirmQuote,
-    Negotiated,
-    Click,
-    Reason,
-    Withdrawn,
-    QuoteRest,
-    ClickRest,
-    Close,
-    NoQuote,
-    Mismatch,
-    Unit,
-    Serial,
-    Item,
-    Account,
-    Quantity,
-    Price,
-    Agreement,
-    Time,
-    Net,
-    Coming,
-    Going,
-    Refused,
-}
-
-impl Word {
-    pub(crate) fn text(self) -> &'static str
-        ensures { result.now ≡ word_text self }
-    {
-        match self {
-            Word::Tape => "tape",
-            Word::Date => "date",
-            Word::Lines => "lines",
-            Word::Line => "line",
-            Word::Entry => "entry",
-            Word::Deal => "deal",
-            Word::Cancel => "cancel",
-            Word::PaidIn => "paid-in",
-            Word::DrawnOut => "drawn-out",
-            Word::Nobody => "none",
-            Word::Buy => "buy",
-            Word::Sell => "sell",
-            Word::Intention => "intention",
-            Word::FirmQuote => "firm-quote",
-            Word::Negotiated => "negotiated",
-            Word::Click => "click",
-            Word::Reason => "reason",
-            Word::Withdrawn => "withdrawn",
-            Word::QuoteRest => "quote-rest",
-            Word::ClickRest => "click-rest",
-            Word::Close => "close",
-            Word::NoQuote => "no-quote",
-            Word::Mismatch => "mismatch",
-            Word::Unit => "unit",
-            Word::Serial => "serial",
-            Word::Item => "item",
-            Word::Account => "account",
-            Word::Quantity => "quantity",
-            Word::Price => "price",
-            Word::Agreement => "agreement",
-            Word::Time => "time",
-            Word::Net => "net",
-            Word::Coming => "coming",
-            Word::Going => "going",
-            Word::Refused => "refused",
-        }
-    }
-}
 
 pub(crate) fn kind_word(line: &Line) -> Word
     ensures { result ≡ kind_word line.now }
@@ -149,7 +66,7 @@ pub(crate) fn order_words(line: &Line) -> OrderWords
             OrderWords {
                 side: side_word(o.side),
                 kind: order_word(o.kind),
-                reason: Word::Nobody,
+                reason: Word::Absent,
             }
         }
         Line::Cancel(o, why) => {
@@ -161,9 +78,9 @@ pub(crate) fn order_words(line: &Line) -> OrderWords
         }
         Line::PaidIn(_) | Line::DrawnOut(_) => {
             OrderWords {
-                side: Word::Nobody,
-                kind: Word::Nobody,
-                reason: Word::Nobody,
+                side: Word::Absent,
+                kind: Word::Absent,
+                reason: Word::Absent,
             }
         }
     }

@@ -1,7 +1,0 @@
-use Rattle.std.proofs.Common.{◌≡◌, ◌++◌, take, string_bytes}
-use Rattle.std.specs.List.{flat_map}
-use Rattle.statement.specs.Cells.{after_blank}
-use Rattle.statement.proofs.cells.push_row.Given as goal
-
-abbrev pub invariant-loop-cell : goal.invariant-loop-cell
-invariant-loop-cell l = string_bytes l.out ≡ string_bytes l.initial.out ++ flat_map after_blank (take l.cell-index l.cells)
