@@ -1,15 +1,10 @@
 -- What the searches of iterators find, in the words of the rules.
-use Rattle.std.proofs.Common.{◌≡◌, ℕ, suc, ◌+◌, ◌<◌, ◌&&◌, ◌||◌, Bool, true, false, cond, eqb, List, [], ◌∷◌, length, Some, None, Option, is_some, sym, refl, ap, ◌∙◌, arith}
+use Rattle.std.proofs.Common.{◌≡◌, ℕ, suc, ◌+◌, ◌<◌, ◌||◌, Bool, true, false, cond, List, [], ◌∷◌, length, Some, None, Option, is_some, sym, refl, ap, ◌∙◌, arith}
 use Rattle.std.specs.Option.{option_map, IfSome}
-use Rattle.std.specs.List.{position, position_from, list_any, find}
+use Rattle.std.specs.List.{position, position_from, list_any}
 use Rattle.std.proofs.lemmas.Iterator.Adapters.{position_from-zero}
 use Rattle.rules.specs.Orders.{first_place}
-use Rattle.rules.specs.Checks.{has_name, has_dealt, between_units}
-use Rattle.rules.specs.Listing.{find_listed}
 use Rattle.rules.specs.declared.order.Standing.{Standing}
-use Rattle.rules.specs.declared.order.Name.{Name}
-use Rattle.rules.specs.declared.order.Agreement.{Agreement}
-use Rattle.rules.specs.declared.security.Security.{Security}
 
 further : (k : ℕ) (r : Option ℕ) → option_map (λ n. (k + 1) + n) r ≡ option_map (λ n. k + n) (option_map suc r)
 further k None = refl
