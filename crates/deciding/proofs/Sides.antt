@@ -2,13 +2,11 @@
 use Rattle.std.proofs.Common.{◌≡◌, ℕ, ◌<◌, refl}
 use Rattle.market.specs.declared.kinds.Side.{Side}
 use Rattle.market.specs.declared.kinds.Side.TheVariants.{Buy, Sell}
-use Rattle.market.specs.declared.kinds.CancelReason.{CancelReason}
 use Rattle.market.specs.declared.kinds.CancelReason.TheVariants.{QuoteRest, ClickRest}
-use Rattle.market.specs.declared.quantity.Quantity.{Quantity}
 use Rattle.market.specs.Figures.{quantity}
 use Rattle.rules.specs.declared.event.Follow.TheVariants.{Deal, DealAndCancel}
-use Rattle.rules.specs.Dealing.{opposite, deal, click_short, quote_short}
-use Rattle.deciding.specs.Places.{Within, parties}
+use Rattle.rules.specs.Dealing.{deal, click_short, quote_short}
+use Rattle.deciding.specs.Places.{parties}
 
 pub dealt : (s : Side) (n k q : ℕ) → Deal (parties s n k).0 (parties s n k).1 (quantity q) ≡ deal s n k q
 dealt Buy n k q = refl

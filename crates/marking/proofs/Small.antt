@@ -1,6 +1,6 @@
 -- What a line tells of an order is small.
-use Rattle.std.proofs.Common.{◌≡◌, ℕ, ◌≤◌, Bool, true, false, ◌&&◌, eqb, ℤ, refl, arith}
-use Rattle.std.proofs.lemmas.Bool.{and_parts, cond_both, false≢true}
+use Rattle.std.proofs.Common.{◌≡◌, ℕ, ◌≤◌, true, ◌&&◌, eqb, ℤ, arith}
+use Rattle.std.proofs.lemmas.Bool.{and_parts, cond_both}
 use Rattle.ledger.specs.Laws.{at}
 use Rattle.tape.specs.declared.line.Line.{Line}
 use Rattle.tape.specs.declared.line.Line.TheVariants.{Entry, Deal, Cancel, PaidIn, DrawnOut}
@@ -8,7 +8,6 @@ use Rattle.tape.specs.declared.line.OrderLine.{OrderLine}
 use Rattle.tape.specs.Lines.{order_in_range, in_range}
 use Rattle.tape.specs.Tapes.{Contents, Lawful}
 use Rattle.tape.proofs.Ranged.{order_ranged, at_most, bounded}
-use Rattle.rules.specs.declared.order.Name.{Name}
 use Rattle.laws.specs.Accounts.{of_line, enters, deals, cancels, entered, dealt, cancelled}
 use Rattle.marking.specs.declared.account.OrderAccount.{OrderAccount}
 

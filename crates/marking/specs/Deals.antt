@@ -5,7 +5,7 @@
 --   pair_of b s a       b is one buying line, s one selling line, and both agree
 --   line_paired ls l    if l is a deal line: its number stands in one buying and one selling line, and both agree with l
 --   all_paired ls xs    so it is with every line of xs
-use Rattle.std.specs.Prelude.{ℕ, Bool, true, false, ◌&&◌, List, [], ◌∷◌, count_by, ◌==◌}
+use Rattle.std.specs.Prelude.{ℕ, Bool, true, false, ◌&&◌, List, count_by, ◌==◌}
 use Rattle.std.specs.List.{list_all}
 use Rattle.market.specs.declared.kinds.Side.TheVariants.{Buy, Sell}
 use Rattle.tape.specs.declared.line.OrderLine.{OrderLine}

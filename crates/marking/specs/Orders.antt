@@ -3,7 +3,7 @@
 --   noted ns o        ns with the name of o's order behind it, if it was not there yet
 --   orders ls         the orders that lines name, each once, in the sequence of their first lines
 --   account ls n      what the lines enter, deal and cancel of the order n, and what that leaves live
-use Rattle.std.specs.Prelude.{Bool, true, false, cond, ◌&&◌, List, [], ◌∷◌, ◌++◌, pos, ◌-ℤ◌, fold, ◌==◌}
+use Rattle.std.specs.Prelude.{Bool, cond, ◌&&◌, List, [], ◌∷◌, ◌++◌, pos, ◌-ℤ◌, fold, ◌==◌}
 use Rattle.std.specs.List.{list_any}
 use Rattle.tape.specs.declared.line.OrderLine.{OrderLine}
 use Rattle.tape.specs.declared.line.Line.{Line}
