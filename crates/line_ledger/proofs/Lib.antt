@@ -1,5 +1,5 @@
+pub mod Records
 pub mod Summing
-pub mod Finding
-pub mod Writing
+pub mod Searching
+pub mod Moves
 pub mod Opened
-pub mod Lending

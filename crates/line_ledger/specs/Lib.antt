@@ -1,5 +1,4 @@
 pub mod Rows
+pub mod Sharing
 pub mod Opening
 pub mod Lines
-pub mod Sharing
-pub mod Reading

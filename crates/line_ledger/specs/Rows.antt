@@ -1,11 +1,13 @@
--- The book that a table of records stands for.
---   figures p      the figures in the record p: its pair is open
---   row rows k     the record at place k
---   look rows n    the book of the first n records; a pair with no record has nothing
---   Apart, Ranged, Bounded   no two records of one pair; each in range; no total above the limit
---   Kept rows n    what a table of n records keeps to
-use Rattle.std.specs.Prelude.{◌≡◌, ℕ, zero, suc, ◌<◌, ◌≤◌, Bool, true, cond, List, length, slice_index_or}
-use Rattle.ledger.specs.Books.{Figures, Book, nothing, in_range, limit, total}
+-- The book that a list of records stands for.
+--   figures p          the figures in the record p: its pair is open
+--   row rows k         the record at place k
+--   is_of p a i        whether p is a record of the pair a i
+--   look rows          the book: each pair has the figures of its first record, or nothing if there is none
+--   Place rows a i k   the record of the pair a i stands at place k
+--   apart rows         whether no two records are of one pair
+--   Kept rows          what the records of a ledger keep to
+use Rattle.std.specs.Prelude.{◌≡◌, ℕ, ◌<◌, Bool, true, not, cond, ◌&&◌, List, [], ◌∷◌, length, slice_index_or}
+use Rattle.ledger.specs.Books.{Figures, Book, nothing, Lawful}
 use Rattle.ledger.specs.Moves.{same_pair}
 use Rattle.line_ledger.specs.declared.record.PairRecord.{PairRecord}
 
@@ -18,30 +20,23 @@ figures p = record { is_open = true; free = p.free; held = p.held }
 abbrev pub row : List PairRecord → ℕ → PairRecord
 row rows k = slice_index_or rows k blank
 
-abbrev pub stands : PairRecord → ℕ → ℕ → Bool
-stands p a i = same_pair p.account p.item a i
+abbrev pub is_of : PairRecord → ℕ → ℕ → Bool
+is_of p a i = same_pair p.account p.item a i
 
-unfoldable pub look : List PairRecord → ℕ → Book
-look rows zero a i = nothing
-look rows (suc n) a i = cond (stands (row rows n) a i) (figures (row rows n)) (look rows n a i)
+unfoldable pub look : List PairRecord → Book
+look [] a i = nothing
+look (p ∷ rows) a i = cond (is_of p a i) (figures p) (look rows a i)
 
-pub record Clash (rows : List PairRecord) (n j k : ℕ) : Type 0 where
-  pub before : j < k
-  pub inside : k < n
-  pub accounts : (row rows j).account ≡ (row rows k).account
-  pub items : (row rows j).item ≡ (row rows k).item
+pub record Place (rows : List PairRecord) (a i k : ℕ) : Type 0 where
+  pub inside : k < length rows
+  pub account : (row rows k).account ≡ a
+  pub item : (row rows k).item ≡ i
+  pub says : look rows a i ≡ figures (row rows k)
 
-abbrev pub Apart : List PairRecord → ℕ → Type 0
-Apart rows n = (j k : ℕ) → Clash rows n j k → ⊥
+unfoldable pub apart : List PairRecord → Bool
+apart [] = true
+apart (p ∷ rows) = not (look rows p.account p.item).is_open && apart rows
 
-abbrev pub Ranged : List PairRecord → ℕ → Type 0
-Ranged rows n = (k : ℕ) → k < n → in_range (row rows k).account (row rows k).item ≡ true
-
-abbrev pub Bounded : List PairRecord → ℕ → Type 0
-Bounded rows n = (i : ℕ) → total (look rows n) i ≤ limit
-
-pub record Kept (rows : List PairRecord) (n : ℕ) : Type 0 where
-  pub within : n ≤ length rows
-  pub apart : Apart rows n
-  pub ranged : Ranged rows n
-  pub bounded : Bounded rows n
+pub record Kept (rows : List PairRecord) : Type 0 where
+  pub apart : apart rows ≡ true
+  pub lawful : Lawful (look rows)

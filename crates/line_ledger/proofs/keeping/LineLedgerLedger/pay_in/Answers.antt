@@ -1,25 +1,21 @@
-use Rattle.std.proofs.Common.{◌≡◌, length, drop, refl, arith}
-use Rattle.ledger.specs.Moves.{pay_in_answer, pay_in_after}
-use Rattle.line_ledger.proofs.Lending.{filled_kept, lent_answer, lent_after}
+use Rattle.std.proofs.Common.{arith}
+use Rattle.ledger.specs.Books.{limit}
+use Rattle.line_ledger.proofs.Moves.{pay_in_left}
 use Rattle.line_ledger.proofs.keeping.LineLedgerLedger.pay_in.Goals as goal
 
-pub invariant_of-self : goal.invariant_of-self
-invariant_of-self c =
-    let s = c.args.self.now in
-    let ws = c.pay_in_in.new.rows in
-    let l : length ws ≡ s.places.len = omega arith in
-    let K = filled_kept s.places.len s.used ws (drop (length ws) s.places.items) l c.pay_in_in.ensures.kept in
-    record { within = s.within; few = s.few; apart = K.apart; ranged = K.ranged; bounded = K.bounded }
+pub overflow_add-index_mut : goal.overflow_add-index_mut
+unfolding limit
+overflow_add-index_mut c =
+    let w = pay_in_left _ _ _ c.args.n _ _ (record { kept = c.args.self.now.kept; place = c.in_ok-k.ensures; tested = c.index_mut.ensures.value; read = c.index_mut.ensures.value }) (let e = c.total_of.ensures.sum in let w = c.total_of.ensures.within in let h = c.if-n-total_of.false in omega arith) in
+    let f = w.fits in
+    omega arith
 
-pub returns : goal.returns
-returns c =
-    let s = c.args.self.now in
-    let ws = c.pay_in_in.new.rows in
-    let l : length ws ≡ s.places.len = omega arith in
-    let v = c.deref_mut.ensures.value in
-    let e = c.pay_in_in.ensures in
-    record {
-      answer = lent_answer (λ m. pay_in_answer m c.args.account c.args.item c.args.n) _ _ s.places.items s.used v e.answer;
-      after = lent_after (λ m. pay_in_after m c.args.account c.args.item c.args.n) s.places.len _ s.places.items ws (drop (length ws) s.places.items) s.used l v e.after;
-      room = refl;
-    }
+pub invariant_of-self-clause-kept : goal.invariant_of-self-clause-kept
+unfolding limit
+invariant_of-self-clause-kept c =
+    (pay_in_left _ _ _ c.args.n _ _ (record { kept = c.args.self.now.kept; place = c.in_ok-k.ensures; tested = c.index_mut.ensures.value; read = c.index_mut.ensures.value }) (let e = c.total_of.ensures.sum in let w = c.total_of.ensures.within in let h = c.if-n-total_of.false in omega arith)).kept
+
+pub returns-clause-after : goal.returns-clause-after
+unfolding limit
+returns-clause-after c =
+    (pay_in_left _ _ _ c.args.n _ _ (record { kept = c.args.self.now.kept; place = c.in_ok-k.ensures; tested = c.index_mut.ensures.value; read = c.index_mut.ensures.value }) (let e = c.total_of.ensures.sum in let w = c.total_of.ensures.within in let h = c.if-n-total_of.false in omega arith)).book

@@ -1,0 +1,69 @@
+-- Where a pair's record stands, and whether a record holds something.
+use Rattle.std.proofs.Common.{◌≡◌, ℕ, zero, suc, ◌+◌, ◌<◌, ◌≤◌, Bool, true, false, cond, List, [], ◌∷◌, length, Option, Some, None, Decides, MatchBool, MatchOption, MatchResult, ok_or, sym, refl, ap, ◌∙◌, subst, ⊎_elim, arith}
+use Rattle.std.specs.List.{HoldsAt, AllWithin}
+use Rattle.std.proofs.lemmas.Bool.{cases_Bool, true≢false, false≢true, cond-true, cond-false}
+use Rattle.std.proofs.lemmas.Bool.Decides.{same_from_decides}
+use Rattle.market.specs.declared.refusal.Refusal.TheVariants.{PairNotOpen}
+use Rattle.ledger.specs.Books.{Figures, Book, nothing, Lawful}
+use Rattle.ledger.specs.Questions.{any_money, any_security}
+use Rattle.ledger.proofs.Puts.{pair_is, in_accounts, in_items}
+use Rattle.ledger.proofs.Holding.{HeldIn, money_decides, security_decides}
+use Rattle.line_ledger.specs.declared.record.PairRecord.{PairRecord}
+use Rattle.line_ledger.specs.Rows.{blank, figures, row, is_of, look, Place, Kept}
+use Rattle.line_ledger.proofs.Records.{look_first, look_none, look_at}
+
+pub placed : (rows : List PairRecord) (a i : ℕ) (o : Option ℕ) → MatchOption o (AllWithin (λ p. is_of p a i ≡ false) rows 0 (length rows)) (λ k. (k < length rows) × HoldsAt (λ p. is_of p a i ≡ true) rows k × AllWithin (λ p. is_of p a i ≡ false) rows 0 k) → MatchResult (ok_or o PairNotOpen) (Place rows a i) (λ e. (e ≡ PairNotOpen) × (look rows a i ≡ nothing))
+placed rows a i None h = (refl, look_none rows a i (λ j l. h j blank (omega arith) l))
+placed rows a i (Some k) h =
+    let q = pair_is (row rows k).account (row rows k).item a i (h.1 blank) in
+    record { inside = h.0; account = q.0; item = q.1; says = look_first rows a i k h.0 (h.1 blank) (λ j l. h.2 j blank (omega arith) l) }
+
+held_row : (rows : List PairRecord) (a i : ℕ) → 0 < (look rows a i).held → (k : ℕ) × (k < length rows) × ((row rows k).item ≡ i) × (0 < (row rows k).held)
+unfolding look
+held_row [] a i h = absurd (omega arith)
+held_row (p ∷ rows) a i h = ⊎_elim
+    (λ (s : is_of p a i ≡ true).
+    let e : (cond (is_of p a i) (figures p) (look rows a i)).held ≡ p.held = ap (λ (f : Figures). f.held) (cond-true (is_of p a i) _ _ s) in
+    (0, omega arith, (pair_is p.account p.item a i s).1, omega arith))
+    (λ (s : is_of p a i ≡ false).
+    let e : (cond (is_of p a i) (figures p) (look rows a i)).held ≡ (look rows a i).held = ap (λ (f : Figures). f.held) (cond-false (is_of p a i) _ _ s) in
+    let w = held_row rows a i (omega arith) in
+    (suc w.0, omega arith, w.2, w.3))
+    (cases_Bool (is_of p a i))
+
+held_open : (m : Book) (a i : ℕ) → Lawful m → 0 < (m a i).held → (m a i).is_open ≡ true
+held_open m a i L h = ⊎_elim
+    (λ (o : (m a i).is_open ≡ true). o)
+    (λ (o : (m a i).is_open ≡ false). let e : (m a i).held ≡ 0 = ap (λ (f : Figures). f.held) (L.closed a i o) in absurd (omega arith))
+    (cases_Bool (m a i).is_open)
+
+-- what a search of the records for something held, of the items that W has, says of the book
+abbrev Searched : List PairRecord → (ℕ → Type 0) → Bool → Type 0
+Searched rows W r = MatchBool r ((k : ℕ) × (k < length rows) × HoldsAt (λ p. W p.item × (0 < p.held)) rows k) (AllWithin (λ p. W p.item → p.held ≡ 0) rows 0 (length rows))
+
+abbrev HeldOf : Book → (ℕ → Type 0) → Type 0
+HeldOf m W = (i : ℕ) × W i × HeldIn m i
+
+decided : (rows : List PairRecord) (W : ℕ → Type 0) (r : Bool) → Kept rows → Searched rows W r → Decides r (HeldOf (look rows) W)
+decided rows W true K h =
+    let p = row rows h.0 in
+    let t = (h.2 blank).1 in
+    let e : (look rows p.account p.item).held ≡ p.held = ap (λ (f : Figures). f.held) (look_at rows h.0 K.apart h.1) in
+    let o = held_open (look rows) p.account p.item K.lawful (omega arith) in
+    (λ z. (p.item, (h.2 blank).0, (p.account, in_accounts p.account p.item (K.lawful.ranged p.account p.item o), omega arith)), λ z. refl)
+decided rows W false K h =
+    (λ z. absurd (false≢true z),
+    λ w. let q = held_row rows w.2.0 w.0 w.2.2 in let x = q.3 in let z = h q.0 blank (omega arith) q.1 (subst W (sym q.2) w.1) in absurd (omega arith))
+
+pub money_searched : (rows : List PairRecord) (r : Bool) → Kept rows → Searched rows (λ i. i ≡ 0) r → r ≡ any_money (look rows)
+money_searched rows r K h =
+    let m = look rows in
+    same_from_decides r (any_money m) (decided rows (λ i. i ≡ 0) r K h)
+    (λ t. (0, refl, (money_decides m).0 t), λ w. (money_decides m).1 (subst (HeldIn m) w.1 w.2))
+
+pub security_searched : (rows : List PairRecord) (r : Bool) → Kept rows → Searched rows (λ i. 0 < i) r → r ≡ any_security (look rows)
+security_searched rows r K h =
+    let m = look rows in
+    same_from_decides r (any_security m) (decided rows (λ i. 0 < i) r K h)
+    (λ t. let w = (security_decides m).0 t in (w.0, w.2.0, w.2.1),
+    λ w. (security_decides m).1 (w.0, in_items w.2.0 w.0 (K.lawful.ranged w.2.0 w.0 (held_open m w.2.0 w.0 K.lawful w.2.2)), (w.1, w.2)))
