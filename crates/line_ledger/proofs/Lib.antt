@@ -1,4 +1,3 @@
-pub mod Records
 pub mod Summing
 pub mod Searching
 pub mod Moves

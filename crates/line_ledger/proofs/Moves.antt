@@ -13,7 +13,7 @@ use Rattle.ledger.proofs.Keeping.{hold_moved, release_moved, pay_in_moved, draw_
 use Rattle.ledger.proofs.Passing.{give_fair, pass_lawful}
 use Rattle.line_ledger.specs.declared.record.PairRecord.{PairRecord}
 use Rattle.line_ledger.specs.Rows.{blank, figures, row, look, Place, Kept}
-use Rattle.line_ledger.proofs.Records.{Same, look_at, look_set, apart_set}
+use Rattle.line_ledger.specs.Reading.{look_at, look_set, account_set, item_set, kept_set, kept_lawful}
 
 -- t was read at the place of the pair a i, and then q, to be written
 pub record Read (rows : List PairRecord) (a i k : ℕ) (t q : PairRecord) : Type 0 where
@@ -37,30 +37,28 @@ says rows a i k q P r = P.says ∙ ap figures (sym (is_row rows a i k q P r))
 is_open : (rows : List PairRecord) (a i k : ℕ) → Place rows a i k → (look rows a i).is_open ≡ true
 is_open rows a i k P = ap (λ (x : Figures). x.is_open) P.says
 
-same : (rows : List PairRecord) (a i k f h : ℕ) (q : PairRecord) → Place rows a i k → q ≡ get_or rows k q → Same rows k (record { account = q.account; item = q.item; free = f; held = h })
-same rows a i k f h q P r =
-    let e = is_row rows a i k q P r in
-    record { inside = P.inside; account = ap (λ (x : PairRecord). x.account) (sym e); item = ap (λ (x : PairRecord). x.item) (sym e) }
+account_of : (rows : List PairRecord) (a i k : ℕ) (q : PairRecord) → Place rows a i k → q ≡ get_or rows k q → q.account ≡ a
+account_of rows a i k q P r = ap (λ (x : PairRecord). x.account) (is_row rows a i k q P r) ∙ P.account
+
+item_of : (rows : List PairRecord) (a i k : ℕ) (q : PairRecord) → Place rows a i k → q ≡ get_or rows k q → q.item ≡ i
+item_of rows a i k q P r = ap (λ (x : PairRecord). x.item) (is_row rows a i k q P r) ∙ P.item
 
 left : (change : Change) (rows : List PairRecord) (a i n k f h : ℕ) (q : PairRecord) (after : Book) → Kept rows → Place rows a i k → q ≡ get_or rows k q → record { is_open = true; free = f; held = h } ≡ change (figures q) n → edit change (look rows) a i n ≡ after → Lawful after → Left rows k (record { account = q.account; item = q.item; free = f; held = h }) after
 unfolding edit
 left change rows a i n k f h q after K P r e d L =
     let p : PairRecord = record { account = q.account; item = q.item; free = f; held = h } in
-    let S = same rows a i k f h q P r in
-    let w : look (set rows k p) ≡ put (look rows) a i (figures p) =
-    look_set rows k p K.apart S
-    ∙ ap (λ (x : ℕ). put (look rows) x q.item (figures p)) (sym S.account ∙ P.account)
-    ∙ ap (λ (x : ℕ). put (look rows) a x (figures p)) (sym S.item ∙ P.item)
-    in
+    let x = account_of rows a i k q P r in
+    let y = item_of rows a i k q P r in
+    let w = look_set rows k a i p K.apart P.inside P.account P.item x y in
     let b : look (set rows k p) ≡ after =
-    w ∙ ap (λ (x : Figures). put (look rows) a i x) (e ∙ ap (λ (x : Figures). change x n) (sym (says rows a i k q P r))) ∙ d
+    w ∙ ap (λ (z : Figures). put (look rows) a i z) (e ∙ ap (λ (z : Figures). change z n) (sym (says rows a i k q P r))) ∙ d
     in
     let M : Lawful (look (set rows k p)) = subst Lawful (sym b) L in
     let g : look (set rows k p) a i ≡ figures p = ap (λ (m : Book). m a i) w ∙ put_same (look rows) a i (figures p) in
     let u = figures_fit (look (set rows k p)) a i M in
-    let x : (look (set rows k p) a i).free ≡ f = ap (λ (x : Figures). x.free) g in
-    let y : (look (set rows k p) a i).held ≡ h = ap (λ (x : Figures). x.held) g in
-    record { book = b; kept = record { apart = apart_set rows k p K.apart S; lawful = M }; fits = omega arith }
+    let v : (look (set rows k p) a i).free ≡ f = ap (λ (z : Figures). z.free) g in
+    let t : (look (set rows k p) a i).held ≡ h = ap (λ (z : Figures). z.held) g in
+    record { book = b; kept = kept_set rows k a i p K P.inside P.account P.item x y M; fits = omega arith }
 
 -- a check that is passed
 passes : (x m : Book) (f : Figures) (have need : ℕ) (e : Refusal) → f.is_open ≡ true → need ≤ have → x ≡ when_done (checked f have need e) x m
@@ -71,46 +69,35 @@ unfolding hold_answer hold_after
 hold_left rows a i n k t q R h =
     let m = look rows in
     let e : (m a i).free ≡ t.free = ap (λ (x : Figures). x.free) (says rows a i k t R.place R.tested) in
-    left to_held rows a i n k _ _ q _ R.kept R.place R.read refl (passes _ m (m a i) (m a i).free n FreeTooSmall (is_open rows a i k R.place) (omega arith)) (hold_moved m a i n R.kept.lawful).lawful
+    left to_held rows a i n k _ _ q _ R.kept R.place R.read refl (passes _ m (m a i) (m a i).free n FreeTooSmall (is_open rows a i k R.place) (omega arith)) (hold_moved m a i n (kept_lawful rows R.kept)).lawful
 
 pub release_left : (rows : List PairRecord) (a i n k : ℕ) (t q : PairRecord) → Read rows a i k t q → n ≤ t.held → Left rows k (record { account = q.account; item = q.item; free = q.free + n; held = q.held - n }) (release_after (look rows) a i n)
 unfolding release_answer release_after
 release_left rows a i n k t q R h =
     let m = look rows in
     let e : (m a i).held ≡ t.held = ap (λ (x : Figures). x.held) (says rows a i k t R.place R.tested) in
-    left to_free rows a i n k _ _ q _ R.kept R.place R.read refl (passes _ m (m a i) (m a i).held n MoreThanHeld (is_open rows a i k R.place) (omega arith)) (release_moved m a i n R.kept.lawful).lawful
+    left to_free rows a i n k _ _ q _ R.kept R.place R.read refl (passes _ m (m a i) (m a i).held n MoreThanHeld (is_open rows a i k R.place) (omega arith)) (release_moved m a i n (kept_lawful rows R.kept)).lawful
 
 pub draw_out_left : (rows : List PairRecord) (a i n k : ℕ) (t q : PairRecord) → Read rows a i k t q → n ≤ t.free → Left rows k (record { account = q.account; item = q.item; free = q.free - n; held = q.held }) (draw_out_after (look rows) a i n)
 unfolding draw_out_answer draw_out_after
 draw_out_left rows a i n k t q R h =
     let m = look rows in
     let e : (m a i).free ≡ t.free = ap (λ (x : Figures). x.free) (says rows a i k t R.place R.tested) in
-    left less_free rows a i n k _ _ q _ R.kept R.place R.read refl (passes _ m (m a i) (m a i).free n FreeTooSmall (is_open rows a i k R.place) (omega arith)) (draw_out_moved m a i n R.kept.lawful).lawful
+    left less_free rows a i n k _ _ q _ R.kept R.place R.read refl (passes _ m (m a i) (m a i).free n FreeTooSmall (is_open rows a i k R.place) (omega arith)) (draw_out_moved m a i n (kept_lawful rows R.kept)).lawful
 
 pub pay_in_left : (rows : List PairRecord) (a i n k : ℕ) (q : PairRecord) → Read rows a i k q q → total (look rows) i + n ≤ limit → Left rows k (record { account = q.account; item = q.item; free = q.free + n; held = q.held }) (pay_in_after (look rows) a i n)
 unfolding pay_in_answer pay_in_after
 pay_in_left rows a i n k q R h =
     let m = look rows in
-    left more_free rows a i n k _ _ q _ R.kept R.place R.read refl (passes _ m (m a i) limit (total m i + n) TotalTooLarge (is_open rows a i k R.place) h) (pay_in_moved m a i n R.kept.lawful).lawful
+    left more_free rows a i n k _ _ q _ R.kept R.place R.read refl (passes _ m (m a i) limit (total m i + n) TotalTooLarge (is_open rows a i k R.place) h) (pay_in_moved m a i n (kept_lawful rows R.kept)).lawful
 
 -- a place stays where it is when a record of the same pair is written
-place_stays : (rows : List PairRecord) (j : ℕ) (p : PairRecord) (b i k : ℕ) → Same rows j p → Kept (set rows j p) → Place rows b i k → Place (set rows j p) b i k
-place_stays rows j p b i k S K P =
-    let l : k < length (set rows j p) = let x = P.inside in let y = length-set rows j p in omega arith in
-    let f : (part : PairRecord → ℕ) → part (row rows j) ≡ part p → part (row (set rows j p) k) ≡ part (row rows k) = λ part e.
-    ⊎_elim
-    (λ (z : k ≡ j). ap (λ (x : ℕ). part (row (set rows j p) x)) z ∙ ap part (get_or-set_same rows j p blank S.inside) ∙ sym e ∙ ap (λ (x : ℕ). part (row rows x)) (sym z))
-    (λ (nz : k ≡ j → ⊥). ap part (get_or-set_other rows j k p blank nz))
-    (cases_eq k j)
-    in
-    let u : (row (set rows j p) k).account ≡ b = f (λ x. x.account) S.account ∙ P.account in
-    let v : (row (set rows j p) k).item ≡ i = f (λ x. x.item) S.item ∙ P.item in
-    record {
-      inside = l;
-      account = u;
-      item = v;
-      says = ap (λ (x : ℕ). look (set rows j p) x i) (sym u) ∙ ap (λ (x : ℕ). look (set rows j p) (row (set rows j p) k).account x) (sym v) ∙ look_at (set rows j p) k K.apart l;
-    }
+place_stays : (rows : List PairRecord) (j a : ℕ) (p : PairRecord) (b i k : ℕ) → Place rows a i j → p.account ≡ a → p.item ≡ i → Kept (set rows j p) → Place rows b i k → Place (set rows j p) b i k
+place_stays rows j a p b i k P x y K Q =
+    let l : k < length (set rows j p) = let g = Q.inside in let h = length-set rows j p in omega arith in
+    let u = account_set rows j a p P.inside P.account x k ∙ Q.account in
+    let v = item_set rows j i p P.inside P.item y k ∙ Q.item in
+    record { inside = l; account = u; item = v; says = look_at (set rows j p) k b i K.apart l u v }
 
 -- a pass writes the giver's record and then the taker's, which may be the same
 abbrev pub given : List PairRecord → ℕ → PairRecord → ℕ → List PairRecord
@@ -120,17 +107,17 @@ give_left : (rows : List PairRecord) (a i n j : ℕ) (t q : PairRecord) → Read
 give_left rows a i n j t q R h =
     let m = look rows in
     let e : (m a i).held ≡ t.held = ap (λ (x : Figures). x.held) (says rows a i j t R.place R.tested) in
-    left less_held rows a i n j _ _ q _ R.kept R.place R.read refl refl (edit_lawful less_held m a i n 0 0 0 n R.kept.lawful (give_fair m a i n R.kept.lawful (is_open rows a i j R.place) (omega arith)))
+    left less_held rows a i n j _ _ q _ R.kept R.place R.read refl refl (edit_lawful less_held m a i n 0 0 0 n (kept_lawful rows R.kept) (give_fair m a i n (kept_lawful rows R.kept) (is_open rows a i j R.place) (omega arith)))
 
 pub pass_left : (rows : List PairRecord) (a b i n j k : ℕ) (t q r : PairRecord) → Read rows a i j t q → Place rows b i k → n ≤ t.held → r ≡ get_or (given rows j q n) k r → Left (given rows j q n) k (record { account = r.account; item = r.item; free = r.free + n; held = r.held }) (pass_after (look rows) a b i n)
 unfolding pass_answer pass_after
 pass_left rows a b i n j k t q r R P h g =
     let m = look rows in
     let G = give_left rows a i n j t q R h in
-    let Q = place_stays rows j _ b i k (same rows a i j q.free (q.held - n) q R.place R.read) G.kept P in
+    let Q = place_stays rows j a _ b i k R.place (account_of rows a i j q R.place R.read) (item_of rows a i j q R.place R.read) G.kept P in
     let e : (m a i).held ≡ t.held = ap (λ (x : Figures). x.held) (says rows a i j t R.place R.tested) in
     let after = edit more_free (edit less_held m a i n) b i n in
     left more_free (given rows j q n) b i n k _ _ r _ G.kept Q g refl
     (ap (λ (x : Book). edit more_free x b i n) G.book
     ∙ ap (λ (x : Answer). when_done x after m) (sym (cond-true (m b i).is_open _ _ (is_open rows b i k P) ∙ enough (m a i) (m a i).held n MoreThanHeld (is_open rows a i j R.place) (omega arith))))
-    (pass_lawful m a b i n R.kept.lawful)
+    (pass_lawful m a b i n (kept_lawful rows R.kept))

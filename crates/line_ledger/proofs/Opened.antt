@@ -1,34 +1,72 @@
 -- A table with no record, and one more record: a pair opened with nothing.
-use Rattle.std.proofs.Common.{◌≡◌, ℕ, ◌+◌, ◌<◌, ◌≤◌, true, false, ltb, List, [], ◌∷◌, ◌++◌, Ok, sym, refl, ap, ◌∙◌, subst, arith}
-use Rattle.std.proofs.lemmas.Bool.{false≢true, lt-ltb, cond-true, cond-false}
-use Rattle.ledger.specs.Books.{Book, nothing, limit, accounts_end, in_range, total, Lawful}
+use Rattle.std.proofs.Common.{◌≡◌, ◌≢◌, ℕ, suc, ◌+◌, ◌<◌, ◌≤◌, true, false, ltb, List, [], ◌∷◌, ◌++◌, length, Ok, sym, refl, ap, ◌∙◌, subst, ⊎_elim, arith}
+use Rattle.std.proofs.lemmas.List.{length_push, get_or_push, get_or_append_left}
+use Rattle.std.proofs.lemmas.Bool.{cases_eq, true≢false, lt-ltb, cond-true, cond-false}
+use Rattle.ledger.specs.Books.{Figures, Book, nothing, limit, accounts_end, in_range, total, Lawful}
 use Rattle.ledger.specs.Moves.{Answer, put, when_done}
 use Rattle.ledger.specs.Opening.{new_pair, open_answer, open_after, SameFigures}
 use Rattle.ledger.proofs.Adding.{sum_to_none}
 use Rattle.ledger.proofs.Pairs.{opened_lawful, opened_same}
 use Rattle.line_ledger.specs.declared.record.PairRecord.{PairRecord}
-use Rattle.line_ledger.specs.Rows.{figures, look, apart, Kept}
+use Rattle.line_ledger.specs.Rows.{blank, figures, row, look, Apart, Kept}
 use Rattle.line_ledger.specs.Opening.{no_pairs}
-use Rattle.line_ledger.proofs.Records.{look_push, apart_push}
+use Rattle.line_ledger.specs.Reading.{look_past, look_more, put_across, fewer_apart, look_at, kept_lawful}
 
-none_lawful : Lawful (look [])
+kept_none : Kept []
 unfolding look total
-none_lawful = record {
+kept_none = record {
+  apart = λ j k c. let h = c.inside in omega arith;
+  ranged = λ k h. absurd (omega arith);
   bounded = λ i. let z = sum_to_none accounts_end in omega arith;
-  ranged = λ a i h. absurd (false≢true h);
-  closed = λ a i h. refl;
 }
 
-none_apart : apart [] ≡ true
-unfolding apart
-none_apart = refl
-
 pub kept_new : (rows : List PairRecord) → rows ≡ [] → Kept rows
-kept_new rows e = subst Kept (sym e) (record { apart = none_apart; lawful = none_lawful })
+kept_new rows e = subst Kept (sym e) kept_none
 
 pub look_new : (rows : List PairRecord) → rows ≡ [] → look rows ≡ no_pairs
 unfolding look
 look_new rows e = ap look e
+
+-- no record is of the pair of p
+abbrev Fresh : List PairRecord → PairRecord → Type 0
+Fresh rows p = (k : ℕ) → k < length rows → (row rows k).account ≡ p.account → (row rows k).item ≢ p.item
+
+fresh : (rows : List PairRecord) (p : PairRecord) → Kept rows → (look rows p.account p.item).is_open ≡ false → Fresh rows p
+fresh rows p K h k l e d = true≢false (sym (ap (λ (f : Figures). f.is_open) (look_at rows k p.account p.item K.apart l e d)) ∙ h)
+
+look_push : (rows : List PairRecord) (p : PairRecord) → Fresh rows p → look (rows ++ p ∷ []) ≡ put (look rows) p.account p.item (figures p)
+look_push [] p h = look_more p []
+look_push (q ∷ rows) p h =
+    look_more q (rows ++ p ∷ [])
+    ∙ ap (λ (m : Book). put m q.account q.item (figures q)) (look_push rows p (λ k l. h (suc k) (omega arith)))
+    ∙ put_across (look rows) q.account q.item (figures q) p.account p.item (figures p) (h 0 (omega arith))
+    ∙ ap (λ (m : Book). put m p.account p.item (figures p)) (sym (look_more q rows))
+
+-- a place of the longer list is an old one or the last
+each_push : (P : ℕ → PairRecord → Type 0) (rows : List PairRecord) (p : PairRecord) → P (length rows) p → ((k : ℕ) → k < length rows → P k (row rows k)) → (k : ℕ) → k < length (rows ++ p ∷ []) → P k (row (rows ++ p ∷ []) k)
+each_push P rows p last old k l =
+    let n = length_push rows p in
+    ⊎_elim
+    (λ (z : length rows ≡ k). subst (λ (x : ℕ). P x (row (rows ++ p ∷ []) x)) z (subst (P (length rows)) (sym (get_or_push rows p blank (length rows) refl)) last))
+    (λ (nz : length rows ≡ k → ⊥).
+    let b : k < length rows = omega arith in subst (P k) (sym (get_or_append_left rows (p ∷ []) blank k b)) (old k b))
+    (cases_eq (length rows) k)
+
+kept_push : (rows : List PairRecord) (p : PairRecord) → Kept rows → Fresh rows p → in_range p.account p.item ≡ true → Lawful (look (rows ++ p ∷ [])) → Kept (rows ++ p ∷ [])
+kept_push rows p K h r L =
+    let n = length_push rows p in
+    record {
+      apart = λ j k c.
+          let b = c.before in
+          let g = c.inside in
+          let e : row (rows ++ p ∷ []) j ≡ row rows j = get_or_append_left rows (p ∷ []) blank j (omega arith) in
+          each_push (λ x q. x ≡ k → (row rows j).account ≡ q.account → (row rows j).item ≢ q.item) rows p
+          (λ z. h j (omega arith))
+          (λ x l z a d. K.apart j x (record { before = omega arith; inside = l; accounts = a; items = d }))
+          k c.inside refl (ap (λ (q : PairRecord). q.account) (sym e) ∙ c.accounts) (ap (λ (q : PairRecord). q.item) (sym e) ∙ c.items);
+      ranged = each_push (λ x q. in_range q.account q.item ≡ true) rows p r K.ranged;
+      bounded = L.bounded;
+    }
 
 -- a pair opened with nothing
 pub record Opens (rows xs : List PairRecord) (room a i : ℕ) : Type 0 where
@@ -41,12 +79,14 @@ unfolding open_answer open_after
 opens rows xs room a i K e r c h =
     let m = look rows in
     let p : PairRecord = record { account = a; item = i; free = 0; held = 0 } in
-    let b : look xs ≡ open_after m room a i =
-    ap look e ∙ look_push rows p c
+    let F = fresh rows p K c in
+    let b : look (rows ++ p ∷ []) ≡ open_after m room a i =
+    look_push rows p F
     ∙ ap (λ (x : Answer). when_done x (put m a i new_pair) m) (sym (cond-true (in_range a i) _ _ r ∙ cond-false (m a i).is_open _ _ c ∙ cond-true (ltb 0 room) _ _ (lt-ltb 0 room h)))
     in
+    let L = kept_lawful rows K in
     record {
-      kept = record { apart = subst (λ (x : List PairRecord). apart x ≡ true) (sym e) (apart_push rows p K.apart c); lawful = subst Lawful (sym b) (opened_lawful m room a i K.lawful) };
-      book = b;
-      figures = subst (SameFigures m) (sym b) (opened_same m room a i K.lawful);
+      kept = subst Kept (sym e) (kept_push rows p K F r (subst Lawful (sym b) (opened_lawful m room a i L)));
+      book = ap look e ∙ b;
+      figures = subst (SameFigures m) (sym (ap look e ∙ b)) (opened_same m room a i L);
     }

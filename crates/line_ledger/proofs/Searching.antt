@@ -1,5 +1,5 @@
 -- Where a pair's record stands, and whether a record holds something.
-use Rattle.std.proofs.Common.{◌≡◌, ℕ, zero, suc, ◌+◌, ◌<◌, ◌≤◌, Bool, true, false, cond, List, [], ◌∷◌, length, Option, Some, None, Decides, MatchBool, MatchOption, MatchResult, ok_or, sym, refl, ap, ◌∙◌, subst, ⊎_elim, arith}
+use Rattle.std.proofs.Common.{◌≡◌, ℕ, zero, suc, ◌+◌, ◌<◌, ◌≤◌, ◌≢◌, Bool, true, false, cond, List, [], ◌∷◌, length, Option, Some, None, Decides, MatchBool, MatchOption, MatchResult, ok_or, sym, refl, ap, ◌∙◌, subst, ⊎_elim, arith}
 use Rattle.std.specs.List.{HoldsAt, AllWithin}
 use Rattle.std.proofs.lemmas.Bool.{cases_Bool, true≢false, false≢true, cond-true, cond-false}
 use Rattle.std.proofs.lemmas.Bool.Decides.{same_from_decides}
@@ -9,27 +9,40 @@ use Rattle.ledger.specs.Questions.{any_money, any_security}
 use Rattle.ledger.proofs.Puts.{pair_is, in_accounts, in_items}
 use Rattle.ledger.proofs.Holding.{HeldIn, money_decides, security_decides}
 use Rattle.line_ledger.specs.declared.record.PairRecord.{PairRecord}
-use Rattle.line_ledger.specs.Rows.{blank, figures, row, is_of, look, Place, Kept}
-use Rattle.line_ledger.proofs.Records.{look_first, look_none, look_at}
+use Rattle.line_ledger.specs.Rows.{blank, figures, row, stands, look, Place, Kept}
+use Rattle.line_ledger.specs.Reading.{stands_is, look_past, look_here, look_fresh, look_at, kept_lawful}
 
-pub placed : (rows : List PairRecord) (a i : ℕ) (o : Option ℕ) → MatchOption o (AllWithin (λ p. is_of p a i ≡ false) rows 0 (length rows)) (λ k. (k < length rows) × HoldsAt (λ p. is_of p a i ≡ true) rows k × AllWithin (λ p. is_of p a i ≡ false) rows 0 k) → MatchResult (ok_or o PairNotOpen) (Place rows a i) (λ e. (e ≡ PairNotOpen) × (look rows a i ≡ nothing))
-placed rows a i None h = (refl, look_none rows a i (λ j l. h j blank (omega arith) l))
+-- the first record of a pair is what the book says of it
+look_first : (rows : List PairRecord) (a i k : ℕ) → k < length rows → (row rows k).account ≡ a → (row rows k).item ≡ i → ((j : ℕ) → j < k → (row rows j).account ≡ a → (row rows j).item ≢ i) → look rows a i ≡ figures (row rows k)
+look_first [] a i k l e d h = absurd (omega arith)
+look_first (p ∷ rows) a i zero l e d h = look_here p rows a i e d
+look_first (p ∷ rows) a i (suc k) l e d h =
+    look_past p rows a i (h 0 (omega arith)) ∙ look_first rows a i k (omega arith) e d (λ j m. h (suc j) (omega arith))
+
+abbrev IsOf : ℕ → ℕ → PairRecord → Type 0
+IsOf a i p = (p.account ≡ a) × (p.item ≡ i)
+
+abbrev NotOf : ℕ → ℕ → PairRecord → Type 0
+NotOf a i p = p.account ≡ a → p.item ≢ i
+
+pub placed : (rows : List PairRecord) (a i : ℕ) (o : Option ℕ) → MatchOption o (AllWithin (NotOf a i) rows 0 (length rows)) (λ k. (k < length rows) × HoldsAt (IsOf a i) rows k × AllWithin (NotOf a i) rows 0 k) → MatchResult (ok_or o PairNotOpen) (Place rows a i) (λ e. (e ≡ PairNotOpen) × (look rows a i ≡ nothing))
+placed rows a i None h = (refl, look_fresh rows a i (λ k l. h k blank (omega arith) l))
 placed rows a i (Some k) h =
-    let q = pair_is (row rows k).account (row rows k).item a i (h.1 blank) in
-    record { inside = h.0; account = q.0; item = q.1; says = look_first rows a i k h.0 (h.1 blank) (λ j l. h.2 j blank (omega arith) l) }
+    let q = h.1 blank in
+    record { inside = h.0; account = q.0; item = q.1; says = look_first rows a i k h.0 q.0 q.1 (λ j l. h.2 j blank (omega arith) l) }
 
 held_row : (rows : List PairRecord) (a i : ℕ) → 0 < (look rows a i).held → (k : ℕ) × (k < length rows) × ((row rows k).item ≡ i) × (0 < (row rows k).held)
 unfolding look
 held_row [] a i h = absurd (omega arith)
 held_row (p ∷ rows) a i h = ⊎_elim
-    (λ (s : is_of p a i ≡ true).
-    let e : (cond (is_of p a i) (figures p) (look rows a i)).held ≡ p.held = ap (λ (f : Figures). f.held) (cond-true (is_of p a i) _ _ s) in
-    (0, omega arith, (pair_is p.account p.item a i s).1, omega arith))
-    (λ (s : is_of p a i ≡ false).
-    let e : (cond (is_of p a i) (figures p) (look rows a i)).held ≡ (look rows a i).held = ap (λ (f : Figures). f.held) (cond-false (is_of p a i) _ _ s) in
+    (λ (s : stands p a i ≡ true).
+    let e : (cond (stands p a i) (figures p) (look rows a i)).held ≡ p.held = ap (λ (f : Figures). f.held) (cond-true (stands p a i) _ _ s) in
+    (0, omega arith, (stands_is p a i s).1, omega arith))
+    (λ (s : stands p a i ≡ false).
+    let e : (cond (stands p a i) (figures p) (look rows a i)).held ≡ (look rows a i).held = ap (λ (f : Figures). f.held) (cond-false (stands p a i) _ _ s) in
     let w = held_row rows a i (omega arith) in
     (suc w.0, omega arith, w.2, w.3))
-    (cases_Bool (is_of p a i))
+    (cases_Bool (stands p a i))
 
 held_open : (m : Book) (a i : ℕ) → Lawful m → 0 < (m a i).held → (m a i).is_open ≡ true
 held_open m a i L h = ⊎_elim
@@ -48,9 +61,9 @@ decided : (rows : List PairRecord) (W : ℕ → Type 0) (r : Bool) → Kept rows
 decided rows W true K h =
     let p = row rows h.0 in
     let t = (h.2 blank).1 in
-    let e : (look rows p.account p.item).held ≡ p.held = ap (λ (f : Figures). f.held) (look_at rows h.0 K.apart h.1) in
-    let o = held_open (look rows) p.account p.item K.lawful (omega arith) in
-    (λ z. (p.item, (h.2 blank).0, (p.account, in_accounts p.account p.item (K.lawful.ranged p.account p.item o), omega arith)), λ z. refl)
+    let e : (look rows p.account p.item).held ≡ p.held = ap (λ (f : Figures). f.held) (look_at rows h.0 p.account p.item K.apart h.1 refl refl) in
+    let o = held_open (look rows) p.account p.item (kept_lawful rows K) (omega arith) in
+    (λ z. (p.item, (h.2 blank).0, (p.account, in_accounts p.account p.item ((kept_lawful rows K).ranged p.account p.item o), omega arith)), λ z. refl)
 decided rows W false K h =
     (λ z. absurd (false≢true z),
     λ w. let q = held_row rows w.2.0 w.0 w.2.2 in let x = q.3 in let z = h q.0 blank (omega arith) q.1 (subst W (sym q.2) w.1) in absurd (omega arith))
@@ -66,4 +79,4 @@ security_searched rows r K h =
     let m = look rows in
     same_from_decides r (any_security m) (decided rows (λ i. 0 < i) r K h)
     (λ t. let w = (security_decides m).0 t in (w.0, w.2.0, w.2.1),
-    λ w. (security_decides m).1 (w.0, in_items w.2.0 w.0 (K.lawful.ranged w.2.0 w.0 (held_open m w.2.0 w.0 K.lawful w.2.2)), (w.1, w.2)))
+    λ w. (security_decides m).1 (w.0, in_items w.2.0 w.0 ((kept_lawful rows K).ranged w.2.0 w.0 (held_open m w.2.0 w.0 (kept_lawful rows K) w.2.2)), (w.1, w.2)))

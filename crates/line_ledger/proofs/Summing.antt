@@ -1,34 +1,35 @@
 -- An item's total is the sum over the records.
-use Rattle.std.proofs.Common.{◌≡◌, ℕ, ◌+◌, ◌<◌, ◌≤◌, true, List, [], ◌∷◌, length, take, sym, refl, ap, ◌∙◌, cond, sum_by, take_all, arith}
-use Rattle.std.proofs.lemmas.Bool.{cond-false}
+use Rattle.std.proofs.Common.{◌≡◌, ℕ, suc, ◌+◌, ◌<◌, ◌≤◌, true, List, [], ◌∷◌, length, take, sym, refl, ap, ◌∙◌, cond, sum_by, take_all, arith}
 use Rattle.std.proofs.lemmas.List.Sums.{sum_by-cons, sum_by_more, sum_by_more_le}
-use Rattle.ledger.specs.Books.{Book, accounts_end, limit, in_range, total, worth}
+use Rattle.ledger.specs.Books.{Book, accounts_end, limit, total, worth}
 use Rattle.ledger.specs.Moves.{put}
 use Rattle.ledger.specs.Laws.{of}
 use Rattle.ledger.proofs.Adding.{sum_to_none}
 use Rattle.ledger.proofs.Puts.{in_accounts, of_here, of_there, of_zero, total_put}
 use Rattle.line_ledger.specs.declared.record.PairRecord.{PairRecord}
-use Rattle.line_ledger.specs.Rows.{blank, figures, row, look, apart, Kept}
-use Rattle.line_ledger.proofs.Records.{look_cons, open_row, opens_more, apart_first, apart_rest}
+use Rattle.line_ledger.specs.Rows.{blank, figures, row, look, Apart, Ranged, Kept}
+use Rattle.line_ledger.specs.Reading.{fewer_apart, look_fresh, look_more}
 
 -- what a record adds to an item's total
 abbrev pub weight : ℕ → PairRecord → ℕ
 weight i p = of p.item (p.free + p.held) i
 
-total_sum : (rows : List PairRecord) (i : ℕ) → apart rows ≡ true → ((a j : ℕ) → (look rows a j).is_open ≡ true → in_range a j ≡ true) → total (look rows) i ≡ sum_by (weight i) rows
+total_sum : (rows : List PairRecord) (i : ℕ) → Apart rows → Ranged rows → total (look rows) i ≡ sum_by (weight i) rows
 unfolding total look
 total_sum [] i A R = sum_to_none accounts_end
 total_sum (p ∷ rows) i A R =
-    let ih = total_sum rows i (apart_rest p rows A) (λ a j h. R a j (opens_more p rows a j h)) in
+    let ih = total_sum rows i (fewer_apart p rows A) (λ k l. R (suc k) (omega arith)) in
     let s = sum_by-cons (weight i) p rows in
-    let m : total (look (p ∷ rows)) i ≡ total (put (look rows) p.account p.item (figures p)) i = ap (λ (x : Book). total x i) (look_cons p rows) in
-    let w : worth (look rows p.account p.item) ≡ 0 = cond-false (look rows p.account p.item).is_open _ _ (apart_first p rows A) in
-    let t = total_put (look rows) p.account p.item (figures p) (p.free + p.held) 0 0 0 (in_accounts p.account p.item (R p.account p.item (open_row (p ∷ rows) 0 (omega arith)))) (omega arith) i in
+    let m : total (look (p ∷ rows)) i ≡ total (put (look rows) p.account p.item (figures p)) i = ap (λ (x : Book). total x i) (look_more p rows) in
+    let w : worth (look rows p.account p.item) ≡ 0 =
+    ap worth (look_fresh rows p.account p.item (λ k l e d. A 0 (suc k) (record { before = omega arith; inside = omega arith; accounts = sym e; items = sym d })))
+    in
+    let t = total_put (look rows) p.account p.item (figures p) (p.free + p.held) 0 0 0 (in_accounts p.account p.item (R 0 (omega arith))) (omega arith) i in
     let z = of_zero p.item i in
     omega arith
 
 pub total_look : (rows : List PairRecord) (i : ℕ) → Kept rows → total (look rows) i ≡ sum_by (weight i) rows
-total_look rows i K = total_sum rows i K.apart K.lawful.ranged
+total_look rows i K = total_sum rows i K.apart K.ranged
 
 -- the records of an item are within the limit, as far as they are summed
 pub sum_fits : (rows : List PairRecord) (i k : ℕ) → Kept rows → k < length rows → (row rows k).item ≡ i → sum_by (weight i) (take k rows) + ((row rows k).free + (row rows k).held) ≤ limit
@@ -36,7 +37,7 @@ sum_fits rows i k K l e =
     let s = sum_by_more_le (weight i) rows k blank l in
     let w = of_here (row rows k).item ((row rows k).free + (row rows k).held) i e in
     let t = total_look rows i K in
-    let b = K.lawful.bounded i in
+    let b = K.bounded i in
     omega arith
 
 pub sum_match : (rows : List PairRecord) (i k : ℕ) → k < length rows → (row rows k).item ≡ i → sum_by (weight i) (take (k + 1) rows) ≡ sum_by (weight i) (take k rows) + ((row rows k).free + (row rows k).held)

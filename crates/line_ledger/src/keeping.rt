@@ -1,4 +1,5 @@
 ghost use Rattle.line_ledger.specs.Lines.{line_book, line_room};
+ghost use Rattle.line_ledger.specs.Reading.{kept_lawful};
 
 use crate::line::LineLedger;
 use ledger::Ledger;
@@ -12,7 +13,7 @@ impl Ledger for LineLedger {
 
     ghost room = { λ s i. line_room s };
 
-    ghost lawful = { λ x. x.kept.lawful };
+    ghost lawful = { λ x. kept_lawful x.rows.items x.kept };
 
     fn is_open(&self, account: u64, item: u32) -> bool {
         self.place(account, item).is_ok()

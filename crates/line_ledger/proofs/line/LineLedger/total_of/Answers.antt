@@ -31,4 +31,4 @@ whole : (c : goal.After-loop-p) → c.loop-p.sum ≡ total (look c.args.self.now
 whole c = sum_whole c.deref-p-items.result.now c.args.self.now.rows.items c.args.item c.loop-p.p-index c.loop-p.sum c.args.self.now.kept c.deref-p-items.ensures.value c.loop-p-test.false c.loop-p.invariant
 
 pub returns : goal.returns
-returns c = record { sum = whole c; within = let e = whole c in let b = c.args.self.now.kept.lawful.bounded c.args.item in omega arith }
+returns c = record { sum = whole c; within = let e = whole c in let b = c.args.self.now.kept.bounded c.args.item in omega arith }
