@@ -6,7 +6,7 @@ use Rattle.market.specs.declared.refusal.Refusal.{Refusal}
 use Rattle.market.specs.declared.refusal.Refusal.TheVariants.{FreeTooSmall, MoreThanHeld, TotalTooLarge}
 use Rattle.ledger.specs.Books.{Figures, Book, limit, total, Lawful}
 use Rattle.ledger.specs.Moves.{Answer, Change, put, edit, checked, when_done, to_held, to_free, more_free, less_free, less_held, hold_answer, hold_after, release_answer, release_after, pay_in_answer, pay_in_after, draw_out_answer, draw_out_after, pass_answer, pass_after}
-use Rattle.ledger.proofs.Puts.{put_same}
+use Rattle.ledger.proofs.Puts.{put_same, in_accounts, total_part, worth_open}
 use Rattle.ledger.proofs.Fairly.{edit_lawful, figures_fit}
 use Rattle.ledger.proofs.OnePair.{enough}
 use Rattle.ledger.proofs.Keeping.{hold_moved, release_moved, pay_in_moved, draw_out_moved}
@@ -121,3 +121,37 @@ pass_left rows a b i n j k t q r R P h g =
     (ap (λ (x : Book). edit more_free x b i n) G.book
     ∙ ap (λ (x : Answer). when_done x after m) (sym (cond-true (m b i).is_open _ _ (is_open rows b i k P) ∙ enough (m a i) (m a i).held n MoreThanHeld (is_open rows a i j R.place) (omega arith))))
     (pass_lawful m a b i n (kept_lawful rows R.kept))
+
+-- what stands at a place fits below the limit, with what a move would add there
+pub row_fits : (rows : List PairRecord) (k : ℕ) (q : PairRecord) → Kept rows → k < length rows → q ≡ get_or rows k q → (get_or rows k q ≡ get_or rows k q) × (q.free + q.held ≤ total (look rows) q.item) × (total (look rows) q.item ≤ limit)
+row_fits rows k q K l r =
+    let e = get_or_read rows k q l r blank in
+    let a = ap (λ (x : PairRecord). x.account) (sym e) in
+    let i = ap (λ (x : PairRecord). x.item) (sym e) in
+    let s : look rows q.account q.item ≡ figures q = look_at rows k q.account q.item K.apart l a i ∙ ap figures (sym e) in
+    let o : (look rows q.account q.item).is_open ≡ true = ap (λ (z : Figures). z.is_open) s in
+    let x : (look rows q.account q.item).free ≡ q.free = ap (λ (z : Figures). z.free) s in
+    let y : (look rows q.account q.item).held ≡ q.held = ap (λ (z : Figures). z.held) s in
+    let w = worth_open (look rows q.account q.item) o in
+    let t = total_part (look rows) q.account q.item (in_accounts q.account q.item ((kept_lawful rows K).ranged q.account q.item o)) in
+    (refl, omega arith, K.bounded q.item)
+
+pub look_written : (rows : List PairRecord) (k : ℕ) (q : PairRecord) (f h : ℕ) → Kept rows → k < length rows → q ≡ get_or rows k q → look (set rows k (record { account = q.account; item = q.item; free = f; held = h })) ≡ put (look rows) q.account q.item (record { is_open = true; free = f; held = h })
+look_written rows k q f h K l r =
+    let e = get_or_read rows k q l r blank in
+    look_set rows k q.account q.item (record { account = q.account; item = q.item; free = f; held = h }) K.apart l (ap (λ (x : PairRecord). x.account) (sym e)) (ap (λ (x : PairRecord). x.item) (sym e)) refl refl
+
+pub kept_written : (rows : List PairRecord) (k : ℕ) (q : PairRecord) (f h : ℕ) → Kept rows → k < length rows → q ≡ get_or rows k q → total (look rows) q.item + (f + h) ≤ limit + (q.free + q.held) → Kept (set rows k (record { account = q.account; item = q.item; free = f; held = h }))
+unfolding edit
+kept_written rows k q f h K l r w =
+    let m = look rows in
+    let e = get_or_read rows k q l r blank in
+    let a = ap (λ (x : PairRecord). x.account) (sym e) in
+    let i = ap (λ (x : PairRecord). x.item) (sym e) in
+    let s : m q.account q.item ≡ figures q = look_at rows k q.account q.item K.apart l a i ∙ ap figures (sym e) in
+    let x : (m q.account q.item).free ≡ q.free = ap (λ (z : Figures). z.free) s in
+    let y : (m q.account q.item).held ≡ q.held = ap (λ (z : Figures). z.held) s in
+    kept_set rows k q.account q.item _ K l a i refl refl
+    (subst Lawful (sym (look_written rows k q f h K l r))
+    (edit_lawful (λ z n. record { is_open = true; free = f; held = h }) m q.account q.item 0 f q.free h q.held (kept_lawful rows K)
+    (record { was = ap (λ (z : Figures). z.is_open) s; stays = refl; free = omega arith; held = omega arith; fits = omega arith })))

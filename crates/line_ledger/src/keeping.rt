@@ -35,7 +35,7 @@ impl Ledger for LineLedger {
         self.rows.iter().any(|p| p.item != 0 && p.held > 0)
     }
 
-    #[tactic(auto, unfolding(ledger::specs::Moves::hold_answer, ledger::specs::Moves::hold_after))]
+    #[tactic(auto, using(crate::proofs::Moves::look_written, crate::proofs::Moves::row_fits), unfolding(ledger::specs::Books::limit, ledger::specs::Moves::edit, ledger::specs::Moves::hold_answer, ledger::specs::Moves::hold_after))]
     fn hold(&mut self, account: u64, item: u32, n: u64) -> Result<(), Refusal> {
         let k = self.place(account, item)?;
         if self.rows[k].free < n {
@@ -47,7 +47,7 @@ impl Ledger for LineLedger {
         Ok(())
     }
 
-    #[tactic(auto, unfolding(ledger::specs::Moves::release_answer, ledger::specs::Moves::release_after))]
+    #[tactic(auto, using(crate::proofs::Moves::look_written, crate::proofs::Moves::row_fits), unfolding(ledger::specs::Books::limit, ledger::specs::Moves::edit, ledger::specs::Moves::release_answer, ledger::specs::Moves::release_after))]
     fn release(&mut self, account: u64, item: u32, n: u64) -> Result<(), Refusal> {
         let k = self.place(account, item)?;
         if self.rows[k].held < n {
@@ -71,7 +71,7 @@ impl Ledger for LineLedger {
         Ok(())
     }
 
-    #[tactic(auto, unfolding(ledger::specs::Books::limit, ledger::specs::Moves::pay_in_answer, ledger::specs::Moves::pay_in_after))]
+    #[tactic(auto, using(crate::proofs::Moves::look_written, crate::proofs::Moves::row_fits), unfolding(ledger::specs::Books::limit, ledger::specs::Moves::edit, ledger::specs::Moves::pay_in_answer, ledger::specs::Moves::pay_in_after))]
     fn pay_in(&mut self, account: u64, item: u32, n: u64) -> Result<(), Refusal> {
         let k = self.place(account, item)?;
         if n > LIMIT - self.total_of(item) {
@@ -81,7 +81,7 @@ impl Ledger for LineLedger {
         Ok(())
     }
 
-    #[tactic(auto, unfolding(ledger::specs::Moves::draw_out_answer, ledger::specs::Moves::draw_out_after))]
+    #[tactic(auto, using(crate::proofs::Moves::look_written, crate::proofs::Moves::row_fits), unfolding(ledger::specs::Books::limit, ledger::specs::Moves::edit, ledger::specs::Moves::draw_out_answer, ledger::specs::Moves::draw_out_after))]
     fn draw_out(&mut self, account: u64, item: u32, n: u64) -> Result<(), Refusal> {
         let k = self.place(account, item)?;
         if self.rows[k].free < n {

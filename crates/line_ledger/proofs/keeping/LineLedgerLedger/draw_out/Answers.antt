@@ -1,10 +1,10 @@
-use Rattle.line_ledger.proofs.Moves.{draw_out_left}
+use Rattle.std.proofs.Common.{arith}
+use Rattle.std.proofs.lemmas.Grind.{common_steps}
+use Rattle.ledger.specs.Books.{limit}
+use Rattle.line_ledger.proofs.Moves.{row_fits, kept_written}
 use Rattle.line_ledger.proofs.keeping.LineLedgerLedger.draw_out.Goals as goal
 
 pub invariant_of-self-clause-kept : goal.invariant_of-self-clause-kept
+unfolding limit
 invariant_of-self-clause-kept c =
-    (draw_out_left _ _ _ c.args.n _ _ _ (record { kept = c.args.self.now.kept; place = c.in_ok-k.ensures; tested = c.index.ensures; read = c.index_mut.ensures.value }) c.if-index-n.false).kept
-
-pub returns-clause-after : goal.returns-clause-after
-returns-clause-after c =
-    (draw_out_left _ _ _ c.args.n _ _ _ (record { kept = c.args.self.now.kept; place = c.in_ok-k.ensures; tested = c.index.ensures; read = c.index_mut.ensures.value }) c.if-index-n.false).book
+    kept_written _ _ c.index_mut.result.now _ _ c.args.self.now.kept c.in_ok-k.ensures.inside c.index_mut.ensures.value (grind (arith, common_steps, row_fits))
