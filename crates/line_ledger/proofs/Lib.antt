@@ -1,4 +1,4 @@
 pub mod Summing
 pub mod Searching
-pub mod Moves
+pub mod Writing
 pub mod Opened

@@ -8,6 +8,7 @@ use market::Refusal;
 // The most that an item's total may be.
 const LIMIT: u64 = 1_000_000_000_000_000_000;
 
+#[tactic(auto, using(crate::proofs::Writing::look_written, crate::proofs::Writing::row_fits, crate::proofs::Writing::look_again, crate::proofs::Writing::row_again), unfolding(ledger::specs::Books::limit, ledger::specs::Moves::edit, ledger::specs::Moves::hold_answer, ledger::specs::Moves::hold_after, ledger::specs::Moves::release_answer, ledger::specs::Moves::release_after, ledger::specs::Moves::pass_answer, ledger::specs::Moves::pass_after, ledger::specs::Moves::pay_in_answer, ledger::specs::Moves::pay_in_after, ledger::specs::Moves::draw_out_answer, ledger::specs::Moves::draw_out_after))]
 impl Ledger for LineLedger {
     ghost book = { line_book };
 
@@ -35,7 +36,6 @@ impl Ledger for LineLedger {
         self.rows.iter().any(|p| p.item != 0 && p.held > 0)
     }
 
-    #[tactic(auto, using(crate::proofs::Moves::look_written, crate::proofs::Moves::row_fits), unfolding(ledger::specs::Books::limit, ledger::specs::Moves::edit, ledger::specs::Moves::hold_answer, ledger::specs::Moves::hold_after))]
     fn hold(&mut self, account: u64, item: u32, n: u64) -> Result<(), Refusal> {
         let k = self.place(account, item)?;
         if self.rows[k].free < n {
@@ -47,7 +47,6 @@ impl Ledger for LineLedger {
         Ok(())
     }
 
-    #[tactic(auto, using(crate::proofs::Moves::look_written, crate::proofs::Moves::row_fits), unfolding(ledger::specs::Books::limit, ledger::specs::Moves::edit, ledger::specs::Moves::release_answer, ledger::specs::Moves::release_after))]
     fn release(&mut self, account: u64, item: u32, n: u64) -> Result<(), Refusal> {
         let k = self.place(account, item)?;
         if self.rows[k].held < n {
@@ -59,7 +58,6 @@ impl Ledger for LineLedger {
         Ok(())
     }
 
-    #[tactic(auto, unfolding(ledger::specs::Moves::pass_answer, ledger::specs::Moves::pass_after))]
     fn pass(&mut self, from: u64, to: u64, item: u32, n: u64) -> Result<(), Refusal> {
         let giver = self.place(from, item)?;
         let taker = self.place(to, item)?;
@@ -71,7 +69,6 @@ impl Ledger for LineLedger {
         Ok(())
     }
 
-    #[tactic(auto, using(crate::proofs::Moves::look_written, crate::proofs::Moves::row_fits), unfolding(ledger::specs::Books::limit, ledger::specs::Moves::edit, ledger::specs::Moves::pay_in_answer, ledger::specs::Moves::pay_in_after))]
     fn pay_in(&mut self, account: u64, item: u32, n: u64) -> Result<(), Refusal> {
         let k = self.place(account, item)?;
         if n > LIMIT - self.total_of(item) {
@@ -81,7 +78,6 @@ impl Ledger for LineLedger {
         Ok(())
     }
 
-    #[tactic(auto, using(crate::proofs::Moves::look_written, crate::proofs::Moves::row_fits), unfolding(ledger::specs::Books::limit, ledger::specs::Moves::edit, ledger::specs::Moves::draw_out_answer, ledger::specs::Moves::draw_out_after))]
     fn draw_out(&mut self, account: u64, item: u32, n: u64) -> Result<(), Refusal> {
         let k = self.place(account, item)?;
         if self.rows[k].free < n {

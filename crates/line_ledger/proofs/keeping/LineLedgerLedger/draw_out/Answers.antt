@@ -1,7 +1,7 @@
 use Rattle.std.proofs.Common.{arith}
 use Rattle.std.proofs.lemmas.Grind.{common_steps}
 use Rattle.ledger.specs.Books.{limit}
-use Rattle.line_ledger.proofs.Moves.{row_fits, kept_written}
+use Rattle.line_ledger.proofs.Writing.{row_fits, kept_written}
 use Rattle.line_ledger.proofs.keeping.LineLedgerLedger.draw_out.Goals as goal
 
 pub invariant_of-self-clause-kept : goal.invariant_of-self-clause-kept

@@ -1,19 +1,9 @@
 use Rattle.std.proofs.Common.{arith}
-use Rattle.ledger.specs.Books.{limit}
-use Rattle.line_ledger.proofs.Moves.{pass_left}
+use Rattle.std.proofs.lemmas.Grind.{common_steps}
+use Rattle.line_ledger.proofs.Writing.{kept_again}
 use Rattle.line_ledger.proofs.keeping.LineLedgerLedger.pass.Goals as goal
-
-pub overflow_add-index_mut : goal.overflow_add-index_mut
-unfolding limit
-overflow_add-index_mut c =
-    let w = pass_left _ _ _ _ c.args.n _ _ _ _ _ (record { kept = c.args.self.now.kept; place = c.in_ok-giver.ensures; tested = c.index.ensures; read = c.index_mut.ensures.value }) c.in_ok-taker.ensures c.if-index-n.false c.index_mut-2.ensures.value in
-    let f = w.fits in
-    omega arith
 
 pub invariant_of-self-clause-kept : goal.invariant_of-self-clause-kept
 invariant_of-self-clause-kept c =
-    (pass_left _ _ _ _ c.args.n _ _ _ _ _ (record { kept = c.args.self.now.kept; place = c.in_ok-giver.ensures; tested = c.index.ensures; read = c.index_mut.ensures.value }) c.in_ok-taker.ensures c.if-index-n.false c.index_mut-2.ensures.value).kept
-
-pub returns-clause-after : goal.returns-clause-after
-returns-clause-after c =
-    (pass_left _ _ _ _ c.args.n _ _ _ _ _ (record { kept = c.args.self.now.kept; place = c.in_ok-giver.ensures; tested = c.index.ensures; read = c.index_mut.ensures.value }) c.in_ok-taker.ensures c.if-index-n.false c.index_mut-2.ensures.value).book
+    kept_again _ _ c.index_mut.result.now _ _ _ c.index_mut-2.result.now _ _ c.args.self.now.kept c.in_ok-giver.ensures.inside c.in_ok-taker.ensures.inside c.index_mut.ensures.value
+    (grind (arith, common_steps)) (grind (arith, common_steps)) c.index_mut-2.ensures.value (grind (arith, common_steps))
