@@ -68,25 +68,29 @@ kept_push rows p K h r L =
       bounded = L.bounded;
     }
 
+pub look_pushed : (rows : List PairRecord) (p : PairRecord) → Kept rows → (look rows p.account p.item).is_open ≡ false → look (rows ++ p ∷ []) ≡ put (look rows) p.account p.item (figures p)
+look_pushed rows p K h = look_push rows p (fresh rows p K h)
+
 -- a pair opened with nothing
-pub record Opens (rows xs : List PairRecord) (room a i : ℕ) : Type 0 where
+pub record Opens (rows xs : List PairRecord) : Type 0 where
   pub kept : Kept xs
-  pub book : look xs ≡ open_after (look rows) room a i
   pub figures : SameFigures (look rows) (look xs)
 
-pub opens : (rows xs : List PairRecord) (room a i : ℕ) → Kept rows → xs ≡ rows ++ record { account = a; item = i; free = 0; held = 0 } ∷ [] → in_range a i ≡ true → (look rows a i).is_open ≡ false → 0 < room → Opens rows xs room a i
+pub opens : (rows xs : List PairRecord) (p : PairRecord) → Kept rows → xs ≡ rows ++ p ∷ [] → in_range p.account p.item ≡ true → (look rows p.account p.item).is_open ≡ false → p.free ≡ 0 → p.held ≡ 0 → Opens rows xs
 unfolding open_answer open_after
-opens rows xs room a i K e r c h =
+opens rows xs p K e r c f h =
     let m = look rows in
-    let p : PairRecord = record { account = a; item = i; free = 0; held = 0 } in
+    let a = p.account in
+    let i = p.item in
     let F = fresh rows p K c in
-    let b : look (rows ++ p ∷ []) ≡ open_after m room a i =
-    look_push rows p F
-    ∙ ap (λ (x : Answer). when_done x (put m a i new_pair) m) (sym (cond-true (in_range a i) _ _ r ∙ cond-false (m a i).is_open _ _ c ∙ cond-true (ltb 0 room) _ _ (lt-ltb 0 room h)))
-    in
     let L = kept_lawful rows K in
+    let b : look (rows ++ p ∷ []) ≡ open_after m 1 a i =
+    look_push rows p F
+    ∙ ap (λ (x : ℕ). put m a i (record { is_open = true; free = x; held = p.held })) f
+    ∙ ap (λ (x : ℕ). put m a i (record { is_open = true; free = 0; held = x })) h
+    ∙ ap (λ (x : Answer). when_done x (put m a i new_pair) m) (sym (cond-true (in_range a i) _ _ r ∙ cond-false (m a i).is_open _ _ c))
+    in
     record {
-      kept = subst Kept (sym e) (kept_push rows p K F r (subst Lawful (sym b) (opened_lawful m room a i L)));
-      book = ap look e ∙ b;
-      figures = subst (SameFigures m) (sym (ap look e ∙ b)) (opened_same m room a i L);
+      kept = subst Kept (sym e) (kept_push rows p K F r (subst Lawful (sym b) (opened_lawful m 1 a i L)));
+      figures = subst (SameFigures m) (sym (ap look e ∙ b)) (opened_same m 1 a i L);
     }

@@ -1,7 +1,9 @@
 -- Where a pair's record stands, and whether a record holds something.
-use Rattle.std.proofs.Common.{◌≡◌, ℕ, zero, suc, ◌+◌, ◌<◌, ◌≤◌, ◌≢◌, Bool, true, false, cond, List, [], ◌∷◌, length, Option, Some, None, Decides, MatchBool, MatchOption, MatchResult, ok_or, sym, refl, ap, ◌∙◌, subst, ⊎_elim, arith}
-use Rattle.std.specs.List.{HoldsAt, AllWithin}
-use Rattle.std.proofs.lemmas.Bool.{cases_Bool, true≢false, false≢true, cond-true, cond-false}
+use Rattle.std.proofs.Common.{◌==◌, ◌&&◌, not, nat_lt, ◌≡◌, ℕ, zero, suc, ◌+◌, ◌<◌, ◌≤◌, ◌≢◌, Bool, true, false, cond, List, [], ◌∷◌, length, Option, Some, None, Decides, MatchBool, MatchOption, MatchResult, ok_or, sym, refl, ap, ◌∙◌, subst, ⊎_elim, arith}
+use borrow.Author.Rules.{get_or_read}
+use Rattle.std.specs.List.{HoldsAt, AllWithin, list_any}
+use Rattle.std.proofs.lemmas.List.Folds.{Any-from_list_any, list_any_at}
+use Rattle.std.proofs.lemmas.Bool.{and_from, and_parts, eqb-true, eqb-false, ne_eqb, lt-ltb, ltb-true, not-true, cases_Bool, true≢false, false≢true, cond-true, cond-false}
 use Rattle.std.proofs.lemmas.Bool.Decides.{same_from_decides}
 use Rattle.market.specs.declared.refusal.Refusal.TheVariants.{PairNotOpen}
 use Rattle.ledger.specs.Books.{Figures, Book, nothing, Lawful}
@@ -50,33 +52,50 @@ held_open m a i L h = ⊎_elim
     (λ (o : (m a i).is_open ≡ false). let e : (m a i).held ≡ 0 = ap (λ (f : Figures). f.held) (L.closed a i o) in absurd (omega arith))
     (cases_Bool (m a i).is_open)
 
--- what a search of the records for something held, of the items that W has, says of the book
-abbrev Searched : List PairRecord → (ℕ → Type 0) → Bool → Type 0
-Searched rows W r = MatchBool r ((k : ℕ) × (k < length rows) × HoldsAt (λ p. W p.item × (0 < p.held)) rows k) (AllWithin (λ p. W p.item → p.held ≡ 0) rows 0 (length rows))
+-- what a search of the records for something held, of the items that t has, says of the book
+abbrev pub holds : (ℕ → Bool) → PairRecord → Bool
+holds t p = t p.item && nat_lt 0 p.held
 
-abbrev HeldOf : Book → (ℕ → Type 0) → Type 0
-HeldOf m W = (i : ℕ) × W i × HeldIn m i
+abbrev HeldOf : Book → (ℕ → Bool) → Type 0
+HeldOf m t = (i : ℕ) × (t i ≡ true) × HeldIn m i
 
-decided : (rows : List PairRecord) (W : ℕ → Type 0) (r : Bool) → Kept rows → Searched rows W r → Decides r (HeldOf (look rows) W)
-decided rows W true K h =
-    let p = row rows h.0 in
-    let t = (h.2 blank).1 in
-    let e : (look rows p.account p.item).held ≡ p.held = ap (λ (f : Figures). f.held) (look_at rows h.0 p.account p.item K.apart h.1 refl refl) in
-    let o = held_open (look rows) p.account p.item (kept_lawful rows K) (omega arith) in
-    (λ z. (p.item, (h.2 blank).0, (p.account, in_accounts p.account p.item ((kept_lawful rows K).ranged p.account p.item o), omega arith)), λ z. refl)
-decided rows W false K h =
-    (λ z. absurd (false≢true z),
-    λ w. let q = held_row rows w.2.0 w.0 w.2.2 in let x = q.3 in let z = h q.0 blank (omega arith) q.1 (subst W (sym q.2) w.1) in absurd (omega arith))
+decided : (rows : List PairRecord) (t : ℕ → Bool) → Kept rows → Decides (list_any (holds t) rows) (HeldOf (look rows) t)
+decided rows t K = (found, searched)
+  where
+    found : list_any (holds t) rows ≡ true → HeldOf (look rows) t
+    found h =
+        let w = Any-from_list_any (holds t) rows h in
+        let p = w.1 in
+        let r : p ≡ row rows w.0 = get_or_read rows w.0 p w.2 (sym w.3) blank in
+        let q = and_parts (t p.item) (nat_lt 0 p.held) w.4 in
+        let l : 0 < p.held = ltb-true 0 p.held q.1 in
+        let s : look rows p.account p.item ≡ figures p =
+        look_at rows w.0 p.account p.item K.apart w.2 (ap (λ (x : PairRecord). x.account) (sym r)) (ap (λ (x : PairRecord). x.item) (sym r)) ∙ ap figures (sym r)
+        in
+        let e : (look rows p.account p.item).held ≡ p.held = ap (λ (f : Figures). f.held) s in
+        let g = (kept_lawful rows K).ranged p.account p.item (ap (λ (f : Figures). f.is_open) s) in
+        (p.item, q.0, (p.account, in_accounts p.account p.item g, omega arith))
 
-pub money_searched : (rows : List PairRecord) (r : Bool) → Kept rows → Searched rows (λ i. i ≡ 0) r → r ≡ any_money (look rows)
-money_searched rows r K h =
+    searched : HeldOf (look rows) t → list_any (holds t) rows ≡ true
+    searched w =
+        let q = held_row rows w.2.0 w.0 w.2.2 in
+        list_any_at (holds t) rows q.0 blank q.1 (and_from (t (row rows q.0).item) (nat_lt 0 (row rows q.0).held) (ap t q.2 ∙ w.1) (lt-ltb 0 (row rows q.0).held q.3))
+
+pub money_any : (rows : List PairRecord) → Kept rows → any_money (look rows) ≡ list_any (holds (λ i. i == 0)) rows
+money_any rows K =
     let m = look rows in
-    same_from_decides r (any_money m) (decided rows (λ i. i ≡ 0) r K h)
-    (λ t. (0, refl, (money_decides m).0 t), λ w. (money_decides m).1 (subst (HeldIn m) w.1 w.2))
+    same_from_decides (any_money m) (list_any (holds (λ i. i == 0)) rows)
+    (λ t. (0, refl, (money_decides m).0 t), λ w. (money_decides m).1 (subst (HeldIn m) (eqb-true w.0 0 w.1) w.2))
+    (decided rows (λ i. i == 0) K)
 
-pub security_searched : (rows : List PairRecord) (r : Bool) → Kept rows → Searched rows (λ i. 0 < i) r → r ≡ any_security (look rows)
-security_searched rows r K h =
+pub security_any : (rows : List PairRecord) → Kept rows → any_security (look rows) ≡ list_any (holds (λ i. not (i == 0))) rows
+security_any rows K =
     let m = look rows in
-    same_from_decides r (any_security m) (decided rows (λ i. 0 < i) r K h)
-    (λ t. let w = (security_decides m).0 t in (w.0, w.2.0, w.2.1),
-    λ w. (security_decides m).1 (w.0, in_items w.2.0 w.0 ((kept_lawful rows K).ranged w.2.0 w.0 (held_open m w.2.0 w.0 (kept_lawful rows K) w.2.2)), (w.1, w.2)))
+    same_from_decides (any_security m) (list_any (holds (λ i. not (i == 0))) rows) (
+      λ t. let w = (security_decides m).0 t in let l = w.2.0 in (w.0, ap not (ne_eqb w.0 0 (λ z. omega arith)), w.2.1),
+      λ w.
+          let o = held_open m w.2.0 w.0 (kept_lawful rows K) w.2.2 in
+          let z = eqb-false w.0 0 (not-true (w.0 == 0) w.1) in
+          (security_decides m).1 (w.0, in_items w.2.0 w.0 ((kept_lawful rows K).ranged w.2.0 w.0 o), (omega arith, w.2)),
+    )
+    (decided rows (λ i. not (i == 0)) K)

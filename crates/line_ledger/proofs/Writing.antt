@@ -82,12 +82,13 @@ row_again rows j q f h k r K l l' e w d e' =
     let S = was_read xs k r M (omega arith) e' in
     let i : r.item ≡ q.item = sym S.item ∙ item_set rows j q.item (with_figures q f h) l R.item refl k ∙ d ∙ R.item in
     let t = total_written rows j q f h K l e in
-    let p : r.free + r.held ≤ total (look xs) q.item = subst (λ (x : ℕ). r.free + r.held ≤ total (look xs) x) i S.part in
-    (refl,
-    sym S.account ∙ account_set rows j q.account (with_figures q f h) l R.account refl k,
-    i,
-    ap (λ (m : Book). m r.account q.item) (sym (look_written rows j q f h K l e)) ∙ ap (λ (x : ℕ). look xs r.account x) (sym i) ∙ S.says,
-    omega arith)
+    let p : r.free + r.held ≤ total (look xs) q.item = subst (λ (x : ℕ). r.free + r.held ≤ total (look xs) x) i S.part in (
+      refl,
+      sym S.account ∙ account_set rows j q.account (with_figures q f h) l R.account refl k,
+      i,
+      ap (λ (m : Book). m r.account q.item) (sym (look_written rows j q f h K l e)) ∙ ap (λ (x : ℕ). look xs r.account x) (sym i) ∙ S.says,
+      omega arith,
+    )
 
 pub look_again : (rows : List PairRecord) (j : ℕ) (q : PairRecord) (f h k : ℕ) (r : PairRecord) (g u : ℕ) → Kept rows → j < length rows → k < length rows → q ≡ get_or rows j q → f + h ≤ q.free + q.held → r ≡ get_or (set rows j (with_figures q f h)) k r → look (set (set rows j (with_figures q f h)) k (with_figures r g u)) ≡ put (put (look rows) q.account q.item (of_figures f h)) r.account r.item (of_figures g u)
 look_again rows j q f h k r g u K l l' e w e' =

@@ -38,10 +38,10 @@ impl Ledger for LineLedger {
 
     fn hold(&mut self, account: u64, item: u32, n: u64) -> Result<(), Refusal> {
         let k = self.place(account, item)?;
-        if self.rows[k].free < n {
+        let p = &mut self.rows[k];
+        if p.free < n {
             return Err(Refusal::FreeTooSmall);
         }
-        let p = &mut self.rows[k];
         p.free -= n;
         p.held += n;
         Ok(())
@@ -49,10 +49,10 @@ impl Ledger for LineLedger {
 
     fn release(&mut self, account: u64, item: u32, n: u64) -> Result<(), Refusal> {
         let k = self.place(account, item)?;
-        if self.rows[k].held < n {
+        let p = &mut self.rows[k];
+        if p.held < n {
             return Err(Refusal::MoreThanHeld);
         }
-        let p = &mut self.rows[k];
         p.held -= n;
         p.free += n;
         Ok(())
@@ -80,10 +80,11 @@ impl Ledger for LineLedger {
 
     fn draw_out(&mut self, account: u64, item: u32, n: u64) -> Result<(), Refusal> {
         let k = self.place(account, item)?;
-        if self.rows[k].free < n {
+        let p = &mut self.rows[k];
+        if p.free < n {
             return Err(Refusal::FreeTooSmall);
         }
-        self.rows[k].free -= n;
+        p.free -= n;
         Ok(())
     }
 }
