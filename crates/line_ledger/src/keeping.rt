@@ -80,11 +80,10 @@ impl Ledger for LineLedger {
 
     fn draw_out(&mut self, account: u64, item: u32, n: u64) -> Result<(), Refusal> {
         let k = self.place(account, item)?;
-        let p = &mut self.rows[k];
-        if p.free < n {
+        if self.rows[k].free < n {
             return Err(Refusal::FreeTooSmall);
         }
-        p.free -= n;
+        self.rows[k].free -= n;
         Ok(())
     }
 }
