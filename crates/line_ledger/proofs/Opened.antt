@@ -1,16 +1,16 @@
 -- A table with no record, and one more record: a pair opened with nothing.
-use Rattle.std.proofs.Common.{◌≡◌, ◌≢◌, ℕ, suc, ◌+◌, ◌<◌, ◌≤◌, true, false, ltb, List, [], ◌∷◌, ◌++◌, length, Ok, sym, refl, ap, ◌∙◌, subst, ⊎_elim, arith}
+use Rattle.std.proofs.Common.{◌≡◌, ◌≢◌, ℕ, suc, ◌<◌, true, false, List, [], ◌∷◌, ◌++◌, length, sym, refl, ap, ◌∙◌, subst, ⊎_elim, arith}
 use Rattle.std.proofs.lemmas.List.{length_push, get_or_push, get_or_append_left}
-use Rattle.std.proofs.lemmas.Bool.{cases_eq, true≢false, lt-ltb, cond-true, cond-false}
-use Rattle.ledger.specs.Books.{Figures, Book, nothing, limit, accounts_end, in_range, total, Lawful}
+use Rattle.std.proofs.lemmas.Bool.{cases_eq, true≢false, cond-true, cond-false}
+use Rattle.ledger.specs.Books.{Figures, Book, accounts_end, in_range, total, Lawful}
 use Rattle.ledger.specs.Moves.{Answer, put, when_done}
 use Rattle.ledger.specs.Opening.{new_pair, open_answer, open_after, SameFigures}
 use Rattle.ledger.proofs.Adding.{sum_to_none}
 use Rattle.ledger.proofs.Pairs.{opened_lawful, opened_same}
 use Rattle.line_ledger.specs.declared.record.PairRecord.{PairRecord}
-use Rattle.line_ledger.specs.Rows.{blank, figures, row, look, Apart, Kept}
+use Rattle.line_ledger.specs.Rows.{blank, figures, row, look, Kept}
 use Rattle.line_ledger.specs.Opening.{no_pairs}
-use Rattle.line_ledger.specs.Reading.{look_past, look_more, put_across, fewer_apart, look_at, kept_lawful}
+use Rattle.line_ledger.specs.Reading.{look_more, put_across, look_at, kept_lawful}
 
 kept_none : Kept []
 unfolding look total
@@ -72,25 +72,21 @@ pub look_pushed : (rows : List PairRecord) (p : PairRecord) → Kept rows → (l
 look_pushed rows p K h = look_push rows p (fresh rows p K h)
 
 -- a pair opened with nothing
-pub record Opens (rows xs : List PairRecord) : Type 0 where
-  pub kept : Kept xs
-  pub figures : SameFigures (look rows) (look xs)
-
-pub opens : (rows xs : List PairRecord) (p : PairRecord) → Kept rows → xs ≡ rows ++ p ∷ [] → in_range p.account p.item ≡ true → (look rows p.account p.item).is_open ≡ false → p.free ≡ 0 → p.held ≡ 0 → Opens rows xs
+opened_book : (rows : List PairRecord) (p : PairRecord) → Kept rows → (look rows p.account p.item).is_open ≡ false → in_range p.account p.item ≡ true → p.free ≡ 0 → p.held ≡ 0 → look (rows ++ p ∷ []) ≡ open_after (look rows) 1 p.account p.item
 unfolding open_answer open_after
-opens rows xs p K e r c f h =
+opened_book rows p K c r f h =
     let m = look rows in
     let a = p.account in
     let i = p.item in
-    let F = fresh rows p K c in
-    let L = kept_lawful rows K in
-    let b : look (rows ++ p ∷ []) ≡ open_after m 1 a i =
-    look_push rows p F
+    look_pushed rows p K c
     ∙ ap (λ (x : ℕ). put m a i (record { is_open = true; free = x; held = p.held })) f
     ∙ ap (λ (x : ℕ). put m a i (record { is_open = true; free = 0; held = x })) h
     ∙ ap (λ (x : Answer). when_done x (put m a i new_pair) m) (sym (cond-true (in_range a i) _ _ r ∙ cond-false (m a i).is_open _ _ c))
-    in
-    record {
-      kept = subst Kept (sym e) (kept_push rows p K F r (subst Lawful (sym b) (opened_lawful m 1 a i L)));
-      figures = subst (SameFigures m) (sym (ap look e ∙ b)) (opened_same m 1 a i L);
-    }
+
+pub kept_opened : (rows xs : List PairRecord) (p : PairRecord) → xs ≡ rows ++ p ∷ [] → Kept rows → false ≡ (look rows p.account p.item).is_open → true ≡ in_range p.account p.item → p.free ≡ 0 → p.held ≡ 0 → Kept xs
+kept_opened rows xs p e K c r f h =
+    subst Kept (sym e) (kept_push rows p K (fresh rows p K (sym c)) (sym r) (subst Lawful (sym (opened_book rows p K (sym c) (sym r) f h)) (opened_lawful (look rows) 1 p.account p.item (kept_lawful rows K))))
+
+pub same_figures : (rows xs : List PairRecord) (p : PairRecord) → xs ≡ rows ++ p ∷ [] → Kept rows → false ≡ (look rows p.account p.item).is_open → true ≡ in_range p.account p.item → p.free ≡ 0 → p.held ≡ 0 → SameFigures (look rows) (look xs)
+same_figures rows xs p e K c r f h =
+    subst (SameFigures (look rows)) (sym (ap look e ∙ opened_book rows p K (sym c) (sym r) f h)) (opened_same (look rows) 1 p.account p.item (kept_lawful rows K))

@@ -1,14 +1,14 @@
 -- Where a pair's record stands, and whether a record holds something.
-use Rattle.std.proofs.Common.{◌==◌, ◌&&◌, not, nat_lt, ◌≡◌, ℕ, zero, suc, ◌+◌, ◌<◌, ◌≤◌, ◌≢◌, Bool, true, false, cond, List, [], ◌∷◌, length, Option, Some, None, Decides, MatchBool, MatchOption, MatchResult, ok_or, sym, refl, ap, ◌∙◌, subst, ⊎_elim, arith}
+use Rattle.std.proofs.Common.{◌==◌, ◌&&◌, not, nat_lt, ◌≡◌, ℕ, zero, suc, ◌<◌, ◌≢◌, Bool, true, false, cond, List, [], ◌∷◌, length, Option, Some, None, Decides, MatchOption, MatchResult, ok_or, sym, refl, ap, ◌∙◌, subst, ⊎_elim, arith}
 use borrow.Author.Rules.{get_or_read}
 use Rattle.std.specs.List.{HoldsAt, AllWithin, list_any}
 use Rattle.std.proofs.lemmas.List.Folds.{Any-from_list_any, list_any_at}
-use Rattle.std.proofs.lemmas.Bool.{and_from, and_parts, eqb-true, eqb-false, ne_eqb, lt-ltb, ltb-true, not-true, cases_Bool, true≢false, false≢true, cond-true, cond-false}
+use Rattle.std.proofs.lemmas.Bool.{and_from, and_parts, eqb-true, eqb-false, ne_eqb, lt-ltb, ltb-true, not-true, cases_Bool, cond-true, cond-false}
 use Rattle.std.proofs.lemmas.Bool.Decides.{same_from_decides}
 use Rattle.market.specs.declared.refusal.Refusal.TheVariants.{PairNotOpen}
 use Rattle.ledger.specs.Books.{Figures, Book, nothing, Lawful}
 use Rattle.ledger.specs.Questions.{any_money, any_security}
-use Rattle.ledger.proofs.Puts.{pair_is, in_accounts, in_items}
+use Rattle.ledger.proofs.Puts.{in_accounts, in_items}
 use Rattle.ledger.proofs.Holding.{HeldIn, money_decides, security_decides}
 use Rattle.line_ledger.specs.declared.record.PairRecord.{PairRecord}
 use Rattle.line_ledger.specs.Rows.{blank, figures, row, stands, look, Place, Kept}

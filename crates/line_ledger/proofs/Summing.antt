@@ -1,5 +1,5 @@
 -- An item's total is the sum over the records.
-use Rattle.std.proofs.Common.{◌≡◌, ℕ, suc, ◌+◌, ◌<◌, ◌≤◌, true, List, [], ◌∷◌, length, take, sym, refl, ap, ◌∙◌, cond, sum_by, take_all, arith}
+use Rattle.std.proofs.Common.{◌≡◌, ℕ, suc, ◌+◌, ◌<◌, ◌≤◌, List, [], ◌∷◌, length, take, sym, ap, ◌∙◌, sum_by, take_all, arith}
 use Rattle.std.proofs.lemmas.List.Sums.{sum_by-cons, sum_by_more, sum_by_more_le}
 use Rattle.ledger.specs.Books.{Book, accounts_end, limit, total, worth}
 use Rattle.ledger.specs.Moves.{put}

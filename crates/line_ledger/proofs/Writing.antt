@@ -109,3 +109,6 @@ kept_again rows j q f h k r g u K l l' e w d e' v =
     let A = row_again rows j q f h k r K l l' e w d e' in
     let z : total (look xs) r.item ≡ total (look xs) q.item = ap (total (look xs)) A.2 in
     kept_written xs k r g u (kept_written rows j q f h K l e (omega arith)) (omega arith) e' (omega arith)
+
+-- what the moves are proved by
+pub ruleset writes = (row_fits, look_written, row_again, look_again)

@@ -8,7 +8,7 @@ use market::Refusal;
 // The most that an item's total may be.
 const LIMIT: u64 = 1_000_000_000_000_000_000;
 
-#[tactic(auto, using(crate::proofs::Writing::look_written, crate::proofs::Writing::row_fits, crate::proofs::Writing::look_again, crate::proofs::Writing::row_again), unfolding(ledger::specs::Books::limit, ledger::specs::Moves::edit, ledger::specs::Moves::hold_answer, ledger::specs::Moves::hold_after, ledger::specs::Moves::release_answer, ledger::specs::Moves::release_after, ledger::specs::Moves::pass_answer, ledger::specs::Moves::pass_after, ledger::specs::Moves::pay_in_answer, ledger::specs::Moves::pay_in_after, ledger::specs::Moves::draw_out_answer, ledger::specs::Moves::draw_out_after))]
+#[tactic(auto, using(crate::proofs::Writing::writes), unfolding(ledger::specs::Books::limit, ledger::specs::Moves::edit, ledger::specs::Moves::hold_answer, ledger::specs::Moves::hold_after, ledger::specs::Moves::release_answer, ledger::specs::Moves::release_after, ledger::specs::Moves::pass_answer, ledger::specs::Moves::pass_after, ledger::specs::Moves::pay_in_answer, ledger::specs::Moves::pay_in_after, ledger::specs::Moves::draw_out_answer, ledger::specs::Moves::draw_out_after))]
 impl Ledger for LineLedger {
     ghost book = { line_book };
 

@@ -1,11 +1,9 @@
-use Rattle.std.proofs.Common.{sym, rules}
-use Rattle.line_ledger.proofs.Opened.{opens}
+use Rattle.std.proofs.Common.{rules}
+use Rattle.line_ledger.proofs.Opened.{kept_opened, same_figures}
 use Rattle.line_ledger.proofs.line.LineLedger.open_pair.Goals as goal
 
 pub invariant_of-self-clause-kept : goal.invariant_of-self-clause-kept
-invariant_of-self-clause-kept c =
-    (opens c.args.self.now.rows.items _ _ c.args.self.now.kept c.push_reserved.ensures.items (sym c.if-not-pair_in_range.ensures) (sym c.if-is_open.ensures) (search rules) (search rules)).kept
+invariant_of-self-clause-kept c = search (rules, kept_opened, c.if-not-pair_in_range.ensures, c.if-is_open.ensures)
 
 pub returns-clause-figures : goal.returns-clause-figures
-returns-clause-figures c =
-    (opens c.args.self.now.rows.items _ _ c.args.self.now.kept c.push_reserved.ensures.items (sym c.if-not-pair_in_range.ensures) (sym c.if-is_open.ensures) (search rules) (search rules)).figures
+returns-clause-figures c = search (rules, same_figures, c.if-not-pair_in_range.ensures, c.if-is_open.ensures)

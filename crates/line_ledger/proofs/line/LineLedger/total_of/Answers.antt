@@ -1,4 +1,4 @@
-use Rattle.std.proofs.Common.{◌≡◌, ◌+◌, ◌≤◌, List, take, sum_by, sym, subst, arith}
+use Rattle.std.proofs.Common.{◌≡◌, ◌+◌, ◌≤◌, take, sum_by, sym, subst, arith}
 use Rattle.ledger.specs.Books.{limit, total}
 use Rattle.line_ledger.specs.Rows.{row, look, Kept}
 use Rattle.line_ledger.proofs.Summing.{weight, sum_fits, sum_match, sum_other, sum_whole}
