@@ -1,11 +1,11 @@
 -- An item's total is the sum over the records.
 use Rattle.std.proofs.Common.{◌≡◌, ℕ, suc, ◌+◌, ◌<◌, ◌≤◌, List, [], ◌∷◌, length, take, sym, ap, ◌∙◌, sum_by, take_all, arith}
-use Rattle.std.proofs.lemmas.List.Sums.{sum_by-cons, sum_by_more, sum_by_more_le}
+use Rattle.std.proofs.lemmas.List.Sums.{sum_by-cons, sum_by_more_le}
 use Rattle.ledger.specs.Books.{Book, accounts_end, limit, total, worth}
 use Rattle.ledger.specs.Moves.{put}
 use Rattle.ledger.specs.Laws.{of}
 use Rattle.ledger.proofs.Adding.{sum_to_none}
-use Rattle.ledger.proofs.Puts.{in_accounts, of_here, of_there, of_zero, total_put}
+use Rattle.ledger.proofs.Puts.{in_accounts, of_here, of_zero, total_put}
 use Rattle.line_ledger.specs.declared.record.PairRecord.{PairRecord}
 use Rattle.line_ledger.specs.Rows.{blank, figures, row, look, Apart, Ranged, Kept}
 use Rattle.line_ledger.specs.Reading.{fewer_apart, look_fresh, look_more}
@@ -40,18 +40,8 @@ sum_fits rows i k K l e =
     let b = K.bounded i in
     omega arith
 
-pub sum_match : (rows : List PairRecord) (i k : ℕ) → k < length rows → (row rows k).item ≡ i → sum_by (weight i) (take (k + 1) rows) ≡ sum_by (weight i) (take k rows) + ((row rows k).free + (row rows k).held)
-sum_match rows i k l e =
-    let s = sum_by_more (weight i) rows k blank l in
-    let w = of_here (row rows k).item ((row rows k).free + (row rows k).held) i e in
-    omega arith
+pub sum_whole : (rows : List PairRecord) (i k : ℕ) → Kept rows → length rows ≤ k → (sum_by (weight i) (take k rows) ≡ total (look rows) i) × (total (look rows) i ≤ limit)
+sum_whole rows i k K l = (ap (sum_by (weight i)) (take_all k rows l) ∙ sym (total_look rows i K), K.bounded i)
 
-pub sum_other : (rows : List PairRecord) (i k : ℕ) → k < length rows → ((row rows k).item ≡ i → ⊥) → sum_by (weight i) (take (k + 1) rows) ≡ sum_by (weight i) (take k rows)
-sum_other rows i k l e =
-    let s = sum_by_more (weight i) rows k blank l in
-    let w = of_there (row rows k).item ((row rows k).free + (row rows k).held) i e in
-    omega arith
-
-pub sum_whole : (xs rows : List PairRecord) (i k s : ℕ) → Kept rows → xs ≡ rows → length xs ≤ k → s ≡ sum_by (weight i) (take k xs) → s ≡ total (look rows) i
-sum_whole xs rows i k s K v l e =
-    e ∙ ap (sum_by (weight i)) (take_all k xs l ∙ v) ∙ sym (total_look rows i K)
+-- what the loop over the records is proved by
+pub ruleset sums = (sum_fits, sum_whole)

@@ -29,6 +29,7 @@ impl LineLedger {
         }
     }
 
+    #[tactic(auto, using(crate::proofs::Summing::sums), unfolding(ledger::specs::Books::limit, ledger::specs::Laws::of))]
     pub(crate) fn total_of(&self, item: u32) -> u64
         ensures sum { result ≡ total (line_book self.now) item }
         ensures within { result ≤ limit }
