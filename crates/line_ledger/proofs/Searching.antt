@@ -1,5 +1,5 @@
 -- Where a pair's record stands, and whether a record holds something.
-use Rattle.std.proofs.Common.{◌==◌, ◌&&◌, not, nat_lt, ◌≡◌, ℕ, zero, suc, ◌<◌, ◌≢◌, Bool, true, false, cond, List, [], ◌∷◌, length, Option, Some, None, Decides, MatchOption, MatchResult, ok_or, sym, refl, ap, ◌∙◌, subst, ⊎_elim, arith}
+use Rattle.std.proofs.Common.{◌==◌, ◌&&◌, not, nat_lt, ◌≡◌, ℕ, suc, ◌<◌, ◌≢◌, Bool, true, false, cond, List, [], ◌∷◌, length, Option, Some, None, Decides, MatchOption, MatchResult, ok_or, sym, refl, ap, ◌∙◌, subst, ⊎_elim, arith}
 use borrow.Author.Rules.{get_or_read}
 use Rattle.std.specs.List.{HoldsAt, AllWithin, list_any}
 use Rattle.std.proofs.lemmas.List.Folds.{Any-from_list_any, list_any_at}
@@ -12,26 +12,20 @@ use Rattle.ledger.proofs.Puts.{in_accounts, in_items}
 use Rattle.ledger.proofs.Holding.{HeldIn, money_decides, security_decides}
 use Rattle.line_ledger.specs.declared.record.PairRecord.{PairRecord}
 use Rattle.line_ledger.specs.Rows.{blank, figures, row, stands, look, Place, Kept}
-use Rattle.line_ledger.specs.Reading.{stands_is, look_past, look_here, look_fresh, look_at, kept_lawful}
+use Rattle.line_ledger.specs.Reading.{stands_is, look_fresh, look_at, kept_lawful}
 
--- the first record of a pair is what the book says of it
-look_first : (rows : List PairRecord) (a i k : ℕ) → k < length rows → (row rows k).account ≡ a → (row rows k).item ≡ i → ((j : ℕ) → j < k → (row rows j).account ≡ a → (row rows j).item ≢ i) → look rows a i ≡ figures (row rows k)
-look_first [] a i k l e d h = absurd (omega arith)
-look_first (p ∷ rows) a i zero l e d h = look_here p rows a i e d
-look_first (p ∷ rows) a i (suc k) l e d h =
-    look_past p rows a i (h 0 (omega arith)) ∙ look_first rows a i k (omega arith) e d (λ j m. h (suc j) (omega arith))
-
+-- what a search for the pair's record found
 abbrev IsOf : ℕ → ℕ → PairRecord → Type 0
 IsOf a i p = (p.account ≡ a) × (p.item ≡ i)
 
 abbrev NotOf : ℕ → ℕ → PairRecord → Type 0
 NotOf a i p = p.account ≡ a → p.item ≢ i
 
-pub placed : (rows : List PairRecord) (a i : ℕ) (o : Option ℕ) → MatchOption o (AllWithin (NotOf a i) rows 0 (length rows)) (λ k. (k < length rows) × HoldsAt (IsOf a i) rows k × AllWithin (NotOf a i) rows 0 k) → MatchResult (ok_or o PairNotOpen) (Place rows a i) (λ e. (e ≡ PairNotOpen) × (look rows a i ≡ nothing))
-placed rows a i None h = (refl, look_fresh rows a i (λ k l. h k blank (omega arith) l))
-placed rows a i (Some k) h =
+pub placed : (rows : List PairRecord) (a i : ℕ) (o : Option ℕ) → Kept rows → MatchOption o (AllWithin (NotOf a i) rows 0 (length rows)) (λ k. (k < length rows) × HoldsAt (IsOf a i) rows k × AllWithin (NotOf a i) rows 0 k) → MatchResult (ok_or o PairNotOpen) (Place rows a i) (λ e. (e ≡ PairNotOpen) × (look rows a i ≡ nothing))
+placed rows a i None K h = (refl, look_fresh rows a i (λ k l. h k blank (omega arith) l))
+placed rows a i (Some k) K h =
     let q = h.1 blank in
-    record { inside = h.0; account = q.0; item = q.1; says = look_first rows a i k h.0 q.0 q.1 (λ j l. h.2 j blank (omega arith) l) }
+    record { inside = h.0; account = q.0; item = q.1; says = look_at rows k a i K.apart h.0 q.0 q.1 }
 
 held_row : (rows : List PairRecord) (a i : ℕ) → 0 < (look rows a i).held → (k : ℕ) × (k < length rows) × ((row rows k).item ≡ i) × (0 < (row rows k).held)
 unfolding look
