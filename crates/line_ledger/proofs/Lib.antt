@@ -1,5 +1,4 @@
 pub mod Summing
-pub mod Finding
+pub mod Searching
 pub mod Writing
 pub mod Opened
-pub mod Lending

@@ -1,158 +1,114 @@
--- What a write of one record comes to in the book: every move of one pair, by its check and its change.
-use Rattle.std.proofs.Common.{◌≡◌, ℕ, ◌+◌, ◌-◌, ◌<◌, ◌≤◌, Bool, true, false, cond, List, set, Ok, Err, sym, refl, ap, ◌∙◌, subst, arith}
-use Rattle.std.proofs.lemmas.Bool.{cond-true, cond-false}
-use Rattle.market.specs.declared.refusal.Refusal.{Refusal}
-use Rattle.market.specs.declared.refusal.Refusal.TheVariants.{PairNotOpen, MoreThanHeld}
-use Rattle.ledger.specs.Books.{Figures, Book, nothing, limit, total, Lawful}
-use Rattle.ledger.specs.Moves.{Answer, Change, put, edit, checked, when_done, less_held, more_free, pass_answer, pass_after}
-use Rattle.ledger.proofs.Puts.{in_accounts, total_part, worth_open}
-use Rattle.ledger.proofs.Fairly.{Fair, edit_lawful}
-use Rattle.ledger.proofs.OnePair.{not_open, too_small, enough}
-use Rattle.ledger.proofs.Passing.{give_fair, given_total, take_fair}
+-- What a write of one record's figures comes to. Each lemma names first the term at which a tactic is to take it up.
+use Rattle.std.proofs.Common.{◌≡◌, ℕ, ◌+◌, ◌<◌, ◌≤◌, true, List, length, get_or, set, sym, refl, ap, ◌∙◌, subst, arith, length-set}
+use borrow.Author.Rules.{get_or_read}
+use Rattle.ledger.specs.Books.{Figures, Book, limit, total, Lawful}
+use Rattle.ledger.specs.Moves.{put, edit}
+use Rattle.ledger.proofs.Puts.{in_accounts, of_here, of_zero, total_part, total_put, worth_open}
+use Rattle.ledger.proofs.Fairly.{edit_lawful}
 use Rattle.line_ledger.specs.declared.record.PairRecord.{PairRecord}
-use Rattle.line_ledger.specs.Rows.{figures, row, look, Kept}
-use Rattle.line_ledger.specs.Reading.{look_set, kept_set, kept_lawful, account_set, item_set}
-use Rattle.line_ledger.proofs.Finding.{Place, at_place, open_at, free_at, held_at}
+use Rattle.line_ledger.specs.Rows.{blank, figures, row, look, Kept}
+use Rattle.line_ledger.specs.Reading.{look_at, look_set, account_set, item_set, kept_set, kept_lawful}
 
--- the answer, the table's book, and the table's own law
-pub record Out (r : Answer) (rows : List PairRecord) (n : ℕ) (want : Answer) (left : Book) : Type 0 where
-  pub answer : r ≡ want
-  pub after : look rows n ≡ left
-  pub kept : Kept rows n
+-- q with other figures
+abbrev pub with_figures : PairRecord → ℕ → ℕ → PairRecord
+with_figures q f h = record { account = q.account; item = q.item; free = f; held = h }
 
--- a way that changes nothing
-pub refused : (e : Refusal) (rows : List PairRecord) (n : ℕ) (want : Answer) (after : Book) → Kept rows n → want ≡ Err e → Out (Err e) rows n want (when_done want after (look rows n))
-refused e rows n want after K h = record {
-  answer = sym h;
-  after = ap (λ (r : Answer). when_done r after (look rows n)) (sym h);
-  kept = K;
-}
+abbrev pub of_figures : ℕ → ℕ → Figures
+of_figures f h = record { is_open = true; free = f; held = h }
 
--- one that does
-done : (rows rows' : List PairRecord) (n : ℕ) (want : Answer) (after : Book) → want ≡ Ok tt → look rows' n ≡ after → Kept rows' n → Out (Ok tt) rows' n want (when_done want after (look rows n))
-done rows rows' n want after h e K = record {
-  answer = sym h;
-  after = e ∙ ap (λ (r : Answer). when_done r after (look rows n)) (sym h);
-  kept = K;
-}
+-- q was read at place k
+pub record Read (rows : List PairRecord) (k : ℕ) (q : PairRecord) : Type 0 where
+  pub account : (row rows k).account ≡ q.account
+  pub item : (row rows k).item ≡ q.item
+  pub says : look rows q.account q.item ≡ figures q
+  pub part : q.free + q.held ≤ total (look rows) q.item
 
--- a write of a record whose figures are changed is an edit
-pub edit_row : (change : Change) (rows : List PairRecord) (n k a i x : ℕ) (p : PairRecord) → Kept rows n → Place rows n k a i → p.account ≡ a → p.item ≡ i → figures p ≡ change (figures (row rows k)) x → look (set rows k p) n ≡ edit change (look rows n) a i x
+was_read : (rows : List PairRecord) (k : ℕ) (q : PairRecord) → Kept rows → k < length rows → q ≡ get_or rows k q → Read rows k q
+was_read rows k q K l r =
+    let e = get_or_read rows k q l r blank in
+    let a = ap (λ (x : PairRecord). x.account) (sym e) in
+    let i = ap (λ (x : PairRecord). x.item) (sym e) in
+    let s : look rows q.account q.item ≡ figures q = look_at rows k q.account q.item K.apart l a i ∙ ap figures (sym e) in
+    let o = ap (λ (x : Figures). x.is_open) s in
+    let x : (look rows q.account q.item).free ≡ q.free = ap (λ (z : Figures). z.free) s in
+    let y : (look rows q.account q.item).held ≡ q.held = ap (λ (z : Figures). z.held) s in
+    let w = worth_open (look rows q.account q.item) o in
+    let t = total_part (look rows) q.account q.item (in_accounts q.account q.item ((kept_lawful rows K).ranged q.account q.item o)) in
+    record { account = a; item = i; says = s; part = omega arith }
+
+-- what was read is within its item's total
+pub row_fits : (rows : List PairRecord) (k : ℕ) (q : PairRecord) → Kept rows → k < length rows → q ≡ get_or rows k q → (get_or rows k q ≡ get_or rows k q) × (q.free + q.held ≤ total (look rows) q.item) × (total (look rows) q.item ≤ limit)
+row_fits rows k q K l r = (refl, (was_read rows k q K l r).part, K.bounded q.item)
+
+pub look_written : (rows : List PairRecord) (k : ℕ) (q : PairRecord) (f h : ℕ) → Kept rows → k < length rows → q ≡ get_or rows k q → look (set rows k (with_figures q f h)) ≡ put (look rows) q.account q.item (of_figures f h)
+look_written rows k q f h K l r =
+    let R = was_read rows k q K l r in look_set rows k q.account q.item (with_figures q f h) K.apart l R.account R.item refl refl
+
+-- the item's total changes as the record's figures do
+pub total_written : (rows : List PairRecord) (k : ℕ) (q : PairRecord) (f h : ℕ) → Kept rows → k < length rows → q ≡ get_or rows k q → total (look (set rows k (with_figures q f h))) q.item + (q.free + q.held) ≡ total (look rows) q.item + (f + h)
+total_written rows k q f h K l r =
+    let R = was_read rows k q K l r in
+    let m = look rows in
+    let o = ap (λ (x : Figures). x.is_open) R.says in
+    let x : (m q.account q.item).free ≡ q.free = ap (λ (z : Figures). z.free) R.says in
+    let y : (m q.account q.item).held ≡ q.held = ap (λ (z : Figures). z.held) R.says in
+    let w = worth_open (m q.account q.item) o in
+    let t = total_put m q.account q.item (of_figures f h) (f + h) (q.free + q.held) 0 0 (in_accounts q.account q.item ((kept_lawful rows K).ranged q.account q.item o)) (omega arith) q.item in
+    let g = of_here q.item (f + h) q.item refl in
+    let p = of_here q.item (q.free + q.held) q.item refl in
+    let z = of_zero q.item q.item in
+    let e : total (look (set rows k (with_figures q f h))) q.item ≡ total (put m q.account q.item (of_figures f h)) q.item = ap (λ (v : Book). total v q.item) (look_written rows k q f h K l r) in
+    omega arith
+
+pub kept_written : (rows : List PairRecord) (k : ℕ) (q : PairRecord) (f h : ℕ) → Kept rows → k < length rows → q ≡ get_or rows k q → total (look rows) q.item + (f + h) ≤ limit + (q.free + q.held) → Kept (set rows k (with_figures q f h))
 unfolding edit
-edit_row change rows n k a i x p K P e d h =
-    look_set rows n k a i p K.apart K.within P.0 P.1 P.2 e d
-    ∙ ap (λ (f : Figures). put (look rows n) a i f) h
-    ∙ ap (λ (f : Figures). put (look rows n) a i (change f x)) (sym (at_place rows n k a i K P))
+kept_written rows k q f h K l r w =
+    let R = was_read rows k q K l r in
+    let x : (look rows q.account q.item).free ≡ q.free = ap (λ (z : Figures). z.free) R.says in
+    let y : (look rows q.account q.item).held ≡ q.held = ap (λ (z : Figures). z.held) R.says in
+    kept_set rows k q.account q.item (with_figures q f h) K l R.account R.item refl refl
+    (subst Lawful (sym (look_written rows k q f h K l r))
+    (edit_lawful (λ z n. of_figures f h) (look rows) q.account q.item 0 f q.free h q.held (kept_lawful rows K)
+    (record { was = ap (λ (z : Figures). z.is_open) R.says; stays = refl; free = omega arith; held = omega arith; fits = w })))
 
-pub edit_kept : (change : Change) (rows : List PairRecord) (n k a i x : ℕ) (p : PairRecord) (g l u v : ℕ) → Kept rows n → Place rows n k a i → p.account ≡ a → p.item ≡ i → figures p ≡ change (figures (row rows k)) x → Fair change (look rows n) a i x g l u v → Kept (set rows k p) n
-edit_kept change rows n k a i x p g l u v K P e d h F =
-    kept_set rows n k a i p K P.0 P.1 P.2 e d
-    (subst Lawful (sym (edit_row change rows n k a i x p K P e d h)) (edit_lawful change (look rows n) a i x g l u v (kept_lawful rows n K) F))
+-- r was read at place k once the figures of the record q at place j were written, with no more than before
+pub row_again : (rows : List PairRecord) (j : ℕ) (q : PairRecord) (f h k : ℕ) (r : PairRecord) → Kept rows → j < length rows → k < length rows → q ≡ get_or rows j q → f + h ≤ q.free + q.held → (row rows k).item ≡ (row rows j).item → r ≡ get_or (set rows j (with_figures q f h)) k r → (get_or (set rows j (with_figures q f h)) k r ≡ get_or (set rows j (with_figures q f h)) k r) × (r.account ≡ (row rows k).account) × (r.item ≡ q.item) × (put (look rows) q.account q.item (of_figures f h) r.account q.item ≡ figures r) × (r.free + r.held + (q.free + q.held) ≤ limit + (f + h))
+row_again rows j q f h k r K l l' e w d e' =
+    let xs = set rows j (with_figures q f h) in
+    let R = was_read rows j q K l e in
+    let b = K.bounded q.item in
+    let n = length-set rows j (with_figures q f h) in
+    let M : Kept xs = kept_written rows j q f h K l e (omega arith) in
+    let S = was_read xs k r M (omega arith) e' in
+    let i : r.item ≡ q.item = sym S.item ∙ item_set rows j q.item (with_figures q f h) l R.item refl k ∙ d ∙ R.item in
+    let t = total_written rows j q f h K l e in
+    let p : r.free + r.held ≤ total (look xs) q.item = subst (λ (x : ℕ). r.free + r.held ≤ total (look xs) x) i S.part in (
+      refl,
+      sym S.account ∙ account_set rows j q.account (with_figures q f h) l R.account refl k,
+      i,
+      ap (λ (m : Book). m r.account q.item) (sym (look_written rows j q f h K l e)) ∙ ap (λ (x : ℕ). look xs r.account x) (sym i) ∙ S.says,
+      omega arith,
+    )
 
--- the three ways of a move of one pair
-pub not_found : (change : Change) (rows : List PairRecord) (n a i x have need : ℕ) (e : Refusal) → Kept rows n → look rows n a i ≡ nothing → Out (Err PairNotOpen) rows n (checked (look rows n a i) have need e) (when_done (checked (look rows n a i) have need e) (edit change (look rows n) a i x) (look rows n))
-not_found change rows n a i x have need e K h =
-    refused PairNotOpen rows n _ (edit change (look rows n) a i x) K (not_open (look rows n a i) have need e (ap (λ (f : Figures). f.is_open) h))
+pub look_again : (rows : List PairRecord) (j : ℕ) (q : PairRecord) (f h k : ℕ) (r : PairRecord) (g u : ℕ) → Kept rows → j < length rows → k < length rows → q ≡ get_or rows j q → f + h ≤ q.free + q.held → r ≡ get_or (set rows j (with_figures q f h)) k r → look (set (set rows j (with_figures q f h)) k (with_figures r g u)) ≡ put (put (look rows) q.account q.item (of_figures f h)) r.account r.item (of_figures g u)
+look_again rows j q f h k r g u K l l' e w e' =
+    let R = was_read rows j q K l e in
+    let x = R.part in
+    let b = K.bounded q.item in
+    let n = length-set rows j (with_figures q f h) in
+    look_written (set rows j (with_figures q f h)) k r g u (kept_written rows j q f h K l e (omega arith)) (omega arith) e'
+    ∙ ap (λ (m : Book). put m r.account r.item (of_figures g u)) (look_written rows j q f h K l e)
 
-pub short : (change : Change) (rows : List PairRecord) (n k a i x have need : ℕ) (e : Refusal) → Kept rows n → Place rows n k a i → have < need → Out (Err e) rows n (checked (look rows n a i) have need e) (when_done (checked (look rows n a i) have need e) (edit change (look rows n) a i x) (look rows n))
-short change rows n k a i x have need e K P h =
-    refused e rows n _ (edit change (look rows n) a i x) K (too_small (look rows n a i) have need e (open_at rows n k a i K P) h)
+pub kept_again : (rows : List PairRecord) (j : ℕ) (q : PairRecord) (f h k : ℕ) (r : PairRecord) (g u : ℕ) → Kept rows → j < length rows → k < length rows → q ≡ get_or rows j q → f + h ≤ q.free + q.held → (row rows k).item ≡ (row rows j).item → r ≡ get_or (set rows j (with_figures q f h)) k r → (g + u) + (f + h) ≤ (r.free + r.held) + (q.free + q.held) → Kept (set (set rows j (with_figures q f h)) k (with_figures r g u))
+kept_again rows j q f h k r g u K l l' e w d e' v =
+    let xs = set rows j (with_figures q f h) in
+    let R = was_read rows j q K l e in
+    let b = K.bounded q.item in
+    let n = length-set rows j (with_figures q f h) in
+    let t = total_written rows j q f h K l e in
+    let A = row_again rows j q f h k r K l l' e w d e' in
+    let z : total (look xs) r.item ≡ total (look xs) q.item = ap (total (look xs)) A.2 in
+    kept_written xs k r g u (kept_written rows j q f h K l e (omega arith)) (omega arith) e' (omega arith)
 
-pub written : (change : Change) (rows : List PairRecord) (n k a i x have need : ℕ) (e : Refusal) (p : PairRecord) (g l u v : ℕ) → Kept rows n → Place rows n k a i → need ≤ have → p.account ≡ a → p.item ≡ i → figures p ≡ change (figures (row rows k)) x → Fair change (look rows n) a i x g l u v → Out (Ok tt) (set rows k p) n (checked (look rows n a i) have need e) (when_done (checked (look rows n a i) have need e) (edit change (look rows n) a i x) (look rows n))
-written change rows n k a i x have need e p g l u v K P h ea ei ef F =
-    done rows (set rows k p) n _ (edit change (look rows n) a i x)
-    (enough (look rows n a i) have need e (open_at rows n k a i K P) h)
-    (edit_row change rows n k a i x p K P ea ei ef)
-    (edit_kept change rows n k a i x p g l u v K P ea ei ef F)
-
--- what is added fits beside what is free
-pub added_fits : (rows : List PairRecord) (n k a i x : ℕ) → Kept rows n → Place rows n k a i → total (look rows n) i + x ≤ limit → (row rows k).free + x ≤ limit
-added_fits rows n k a i x K P h =
-    let o = open_at rows n k a i K P in
-    let t = total_part (look rows n) a i (in_accounts a i ((kept_lawful rows n K).ranged a i o)) in
-    let w = worth_open (look rows n a i) o in
-    let f = free_at rows n k a i K P in
-    omega arith
-
--- the first half of a pass
-abbrev pub given : List PairRecord → ℕ → ℕ → ℕ → ℕ → List PairRecord
-given rows j a i x = set rows j (record { account = a; item = i; free = (row rows j).free; held = (row rows j).held - x })
-
-abbrev pub taken : List PairRecord → ℕ → ℕ → ℕ → ℕ → List PairRecord
-taken rows k b i x = set rows k (record { account = b; item = i; free = (row rows k).free + x; held = (row rows k).held })
-
--- both pairs of a pass have their records, and the giver's holds enough
-pub record Pair (rows : List PairRecord) (n j a k b i x : ℕ) : Type 0 where
-  pub kept : Kept rows n
-  pub giver : Place rows n j a i
-  pub taker : Place rows n k b i
-  pub covered : x ≤ (row rows j).held
-
-fair : (rows : List PairRecord) (n j a k b i x : ℕ) → Pair rows n j a k b i x → Fair less_held (look rows n) a i x 0 0 0 x
-fair rows n j a k b i x P =
-    let f = held_at rows n j a i P.kept P.giver in
-    let h = P.covered in
-    give_fair (look rows n) a i x (kept_lawful rows n P.kept) (open_at rows n j a i P.kept P.giver) (omega arith)
-
-given_is : (rows : List PairRecord) (n j a k b i x : ℕ) → Pair rows n j a k b i x → look (given rows j a i x) n ≡ edit less_held (look rows n) a i x
-given_is rows n j a k b i x P =
-    edit_row less_held rows n j a i x (record { account = a; item = i; free = (row rows j).free; held = (row rows j).held - x }) P.kept P.giver refl refl refl
-
-given_kept : (rows : List PairRecord) (n j a k b i x : ℕ) → Pair rows n j a k b i x → Kept (given rows j a i x) n
-given_kept rows n j a k b i x P =
-    edit_kept less_held rows n j a i x (record { account = a; item = i; free = (row rows j).free; held = (row rows j).held - x }) 0 0 0 x P.kept P.giver refl refl refl (fair rows n j a k b i x P)
-
--- the taker's record stays where it is, also if it is the giver's
-given_place : (rows : List PairRecord) (n j a k b i x : ℕ) → Pair rows n j a k b i x → Place (given rows j a i x) n k b i
-given_place rows n j a k b i x P =
-    let w = P.kept.within in
-    let u = P.giver.0 in
-    let p : PairRecord = record { account = a; item = i; free = (row rows j).free; held = (row rows j).held - x } in
-    (P.taker.0, account_set rows j a p (omega arith) P.giver.1 refl k ∙ P.taker.1, item_set rows j i p (omega arith) P.giver.2 refl k ∙ P.taker.2)
-
-given_room : (rows : List PairRecord) (n j a k b i x : ℕ) → Pair rows n j a k b i x → total (look (given rows j a i x) n) i + x ≤ limit
-given_room rows n j a k b i x P =
-    let t = given_total (look rows n) a i x (kept_lawful rows n P.kept) (fair rows n j a k b i x P) in
-    let s : total (look (given rows j a i x) n) i ≡ total (edit less_held (look rows n) a i x) i = ap (λ (m : Book). total m i) (given_is rows n j a k b i x P) in
-    omega arith
-
-pub pass_fits : (rows : List PairRecord) (n j a k b i x : ℕ) → Pair rows n j a k b i x → (row (given rows j a i x) k).free + x ≤ limit
-pass_fits rows n j a k b i x P =
-    added_fits (given rows j a i x) n k b i x (given_kept rows n j a k b i x P) (given_place rows n j a k b i x P) (given_room rows n j a k b i x P)
-
-pub passed : (rows : List PairRecord) (n j a k b i x : ℕ) → Pair rows n j a k b i x → Out (Ok tt) (taken (given rows j a i x) k b i x) n (pass_answer (look rows n) a b i x) (pass_after (look rows n) a b i x)
-unfolding pass_answer pass_after
-passed rows n j a k b i x P =
-    let K = given_kept rows n j a k b i x P in
-    let Q = given_place rows n j a k b i x P in
-    let p : PairRecord = record { account = b; item = i; free = (row (given rows j a i x) k).free + x; held = (row (given rows j a i x) k).held } in
-    let f = held_at rows n j a i P.kept P.giver in
-    let h = P.covered in
-    done rows (taken (given rows j a i x) k b i x) n _ (edit more_free (edit less_held (look rows n) a i x) b i x)
-    (cond-true (look rows n b i).is_open _ _ (open_at rows n k b i P.kept P.taker)
-    ∙ enough (look rows n a i) (look rows n a i).held x MoreThanHeld (open_at rows n j a i P.kept P.giver) (omega arith))
-    (edit_row more_free (given rows j a i x) n k b i x p K Q refl refl refl ∙ ap (λ (m : Book). edit more_free m b i x) (given_is rows n j a k b i x P))
-    (edit_kept more_free (given rows j a i x) n k b i x p x 0 0 0 K Q refl refl refl
-    (take_fair (look (given rows j a i x) n) b i x (open_at (given rows j a i x) n k b i K Q) (given_room rows n j a k b i x P)))
-
-pub pass_no_giver : (rows : List PairRecord) (n a b i x : ℕ) → Kept rows n → look rows n a i ≡ nothing → Out (Err PairNotOpen) rows n (pass_answer (look rows n) a b i x) (pass_after (look rows n) a b i x)
-unfolding pass_answer pass_after
-pass_no_giver rows n a b i x K h =
-    refused PairNotOpen rows n _ (edit more_free (edit less_held (look rows n) a i x) b i x) K (either (look rows n b i).is_open)
-  where
-    either : (t : Bool) → cond t (checked (look rows n a i) (look rows n a i).held x MoreThanHeld) (Err PairNotOpen) ≡ Err PairNotOpen
-    either true = not_open (look rows n a i) (look rows n a i).held x MoreThanHeld (ap (λ (f : Figures). f.is_open) h)
-    either false = refl
-
-pub pass_no_taker : (rows : List PairRecord) (n a b i x : ℕ) → Kept rows n → look rows n b i ≡ nothing → Out (Err PairNotOpen) rows n (pass_answer (look rows n) a b i x) (pass_after (look rows n) a b i x)
-unfolding pass_answer pass_after
-pass_no_taker rows n a b i x K h =
-    refused PairNotOpen rows n _ (edit more_free (edit less_held (look rows n) a i x) b i x) K (cond-false (look rows n b i).is_open _ _ (ap (λ (f : Figures). f.is_open) h))
-
-pub pass_short : (rows : List PairRecord) (n j a k b i x : ℕ) → Kept rows n → Place rows n j a i → Place rows n k b i → (row rows j).held < x → Out (Err MoreThanHeld) rows n (pass_answer (look rows n) a b i x) (pass_after (look rows n) a b i x)
-unfolding pass_answer pass_after
-pass_short rows n j a k b i x K P Q h =
-    let f = held_at rows n j a i K P in
-    refused MoreThanHeld rows n _ (edit more_free (edit less_held (look rows n) a i x) b i x) K
-    (cond-true (look rows n b i).is_open _ _ (open_at rows n k b i K Q)
-    ∙ too_small (look rows n a i) (look rows n a i).held x MoreThanHeld (open_at rows n j a i K P) (omega arith))
+-- what the moves are proved by
+pub ruleset writes = (row_fits, look_written, row_again, look_again)

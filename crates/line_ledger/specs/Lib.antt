@@ -1,5 +1,5 @@
 pub mod Rows
+pub mod Sharing
 pub mod Opening
 pub mod Lines
-pub mod Sharing
 pub mod Reading

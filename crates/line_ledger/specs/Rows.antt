@@ -1,10 +1,12 @@
--- The book that a table of records stands for.
---   figures p      the figures in the record p: its pair is open
---   row rows k     the record at place k
---   look rows n    the book of the first n records; a pair with no record has nothing
+-- The book that a list of records stands for.
+--   figures p          the figures in the record p: its pair is open
+--   row rows k         the record at place k
+--   stands p a i       whether p is a record of the pair a i
+--   look rows          the book: a pair has the figures of its first record; one with no record has nothing
+--   Place rows a i k   at place k stands the record of the pair a i, and the book says what it says
 --   Apart, Ranged, Bounded   no two records of one pair; each in range; no total above the limit
---   Kept rows n    what a table of n records keeps to
-use Rattle.std.specs.Prelude.{◌≡◌, ℕ, zero, suc, ◌<◌, ◌≤◌, Bool, true, cond, List, length, slice_index_or}
+--   Kept rows          what the records of a ledger keep to
+use Rattle.std.specs.Prelude.{◌≡◌, ℕ, ◌<◌, ◌≤◌, Bool, true, cond, List, [], ◌∷◌, length, slice_index_or}
 use Rattle.ledger.specs.Books.{Figures, Book, nothing, in_range, limit, total}
 use Rattle.ledger.specs.Moves.{same_pair}
 use Rattle.line_ledger.specs.declared.record.PairRecord.{PairRecord}
@@ -21,27 +23,32 @@ row rows k = slice_index_or rows k blank
 abbrev pub stands : PairRecord → ℕ → ℕ → Bool
 stands p a i = same_pair p.account p.item a i
 
-unfoldable pub look : List PairRecord → ℕ → Book
-look rows zero a i = nothing
-look rows (suc n) a i = cond (stands (row rows n) a i) (figures (row rows n)) (look rows n a i)
+unfoldable pub look : List PairRecord → Book
+look [] a i = nothing
+look (p ∷ rows) a i = cond (stands p a i) (figures p) (look rows a i)
 
-pub record Clash (rows : List PairRecord) (n j k : ℕ) : Type 0 where
+pub record Place (rows : List PairRecord) (a i k : ℕ) : Type 0 where
+  pub inside : k < length rows
+  pub account : (row rows k).account ≡ a
+  pub item : (row rows k).item ≡ i
+  pub says : look rows a i ≡ figures (row rows k)
+
+pub record Clash (rows : List PairRecord) (j k : ℕ) : Type 0 where
   pub before : j < k
-  pub inside : k < n
+  pub inside : k < length rows
   pub accounts : (row rows j).account ≡ (row rows k).account
   pub items : (row rows j).item ≡ (row rows k).item
 
-abbrev pub Apart : List PairRecord → ℕ → Type 0
-Apart rows n = (j k : ℕ) → Clash rows n j k → ⊥
+abbrev pub Apart : List PairRecord → Type 0
+Apart rows = (j k : ℕ) → Clash rows j k → ⊥
 
-abbrev pub Ranged : List PairRecord → ℕ → Type 0
-Ranged rows n = (k : ℕ) → k < n → in_range (row rows k).account (row rows k).item ≡ true
+abbrev pub Ranged : List PairRecord → Type 0
+Ranged rows = (k : ℕ) → k < length rows → in_range (row rows k).account (row rows k).item ≡ true
 
-abbrev pub Bounded : List PairRecord → ℕ → Type 0
-Bounded rows n = (i : ℕ) → total (look rows n) i ≤ limit
+abbrev pub Bounded : List PairRecord → Type 0
+Bounded rows = (i : ℕ) → total (look rows) i ≤ limit
 
-pub record Kept (rows : List PairRecord) (n : ℕ) : Type 0 where
-  pub within : n ≤ length rows
-  pub apart : Apart rows n
-  pub ranged : Ranged rows n
-  pub bounded : Bounded rows n
+pub record Kept (rows : List PairRecord) : Type 0 where
+  pub apart : Apart rows
+  pub ranged : Ranged rows
+  pub bounded : Bounded rows

@@ -1,13 +1,11 @@
 // A ledger that keeps one record for each open pair.
 #![tactic(auto)]
 
-mod holding;
 mod keeping;
 mod line;
 mod looking;
 mod opening;
 mod pairs;
-mod paying;
 mod record;
 
 pub use line::LineLedger;

@@ -1,16 +1,15 @@
-ghost use Rattle.std.specs.Prelude.{◌≤◌, vec_len};
-ghost use Rattle.line_ledger.specs.Rows.{Apart, Ranged, Bounded};
+ghost use Rattle.std.specs.Prelude.{◌≤◌, vec_len, vec_capacity};
+ghost use Rattle.line_ledger.specs.Rows.{Kept};
 
 use crate::record::PairRecord;
 
-// The first `used` places of the table hold one record for each open pair.
+// The rows are one record for each open pair. At most `most` pairs can be open, and there is memory for as many.
 #[derive(Drop)]
 pub struct LineLedger {
-    pub(crate) places: Vec<PairRecord>,
-    pub(crate) used: usize,
-    ghost within: { used ≤ vec_len places },
-    ghost few: { used ≤ 1024 },
-    ghost apart: { Apart places.items used },
-    ghost ranged: { Ranged places.items used },
-    ghost bounded: { Bounded places.items used },
+    pub(crate) rows: Vec<PairRecord>,
+    pub(crate) most: usize,
+    ghost within: { vec_len rows ≤ most },
+    ghost reserved: { most ≤ vec_capacity rows },
+    ghost few: { most ≤ 1024 },
+    ghost kept: { Kept rows.items },
 }

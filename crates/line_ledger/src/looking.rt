@@ -1,57 +1,45 @@
-ghost use Rattle.std.specs.Prelude.{◌≡◌, ◌<◌, ◌≤◌, length, MatchOption};
-ghost use Rattle.ledger.specs.Books.{nothing, total};
-ghost use Rattle.ledger.specs.Questions.{any_money, any_security};
-ghost use Rattle.line_ledger.specs.Rows.{look, row, Kept};
+ghost use Rattle.std.specs.Prelude.{◌≡◌, ◌≤◌, MatchResult};
+ghost use Rattle.ledger.specs.Books.{nothing, limit, total};
+ghost use Rattle.line_ledger.specs.Rows.{Place};
+ghost use Rattle.line_ledger.specs.Lines.{line_book};
 
+use crate::line::LineLedger;
 use crate::record::PairRecord;
+use market::Refusal;
 
-// Where the pair's record stands among the first `used`.
-pub(crate) fn find(rows: &[PairRecord], used: usize, account: u64, item: u32) -> Option<usize>
-    requires { used ≤ length rows.now }
-    ensures { MatchOption result (look rows.now used account item ≡ nothing) (λ k. (k < used) × ((row rows.now k).account ≡ account) × ((row rows.now k).item ≡ item)) }
-{
-    for k in 0..used {
-        if rows[k].account == account && rows[k].item == item {
-            return Some(k);
+impl LineLedger {
+    // Where the pair's record stands.
+    pub(crate) fn place(&self, account: u64, item: u32) -> Result<usize, Refusal>
+        ensures { MatchResult result (Place self.now.rows.items account item) (λ e. (e ≡ Refusal.PairNotOpen) × (line_book self.now account item ≡ nothing)) }
+    {
+        self.rows
+            .iter()
+            .position(|p| p.account == account && p.item == item)
+            .ok_or(Refusal::PairNotOpen)
+    }
+
+    // The pair's record: one with nothing if the pair is not open.
+    pub(crate) fn record_of(&self, account: u64, item: u32) -> PairRecord
+        ensures free { result.free ≡ (line_book self.now account item).free }
+        ensures held { result.held ≡ (line_book self.now account item).held }
+    {
+        match self.place(account, item) {
+            Ok(k) => self.rows[k],
+            Err(_) => PairRecord::blank(),
         }
     }
-    None
-}
 
-pub(crate) fn total_of(rows: &[PairRecord], used: usize, item: u32) -> u64
-    requires { Kept rows.now used }
-    ensures { result ≡ total (look rows.now used) item }
-{
-    let mut sum: u64 = 0;
-    for k in 0..used {
-        if rows[k].item == item {
-            sum += rows[k].free + rows[k].held;
+    #[tactic(auto, using(crate::proofs::Summing::sums), unfolding(ledger::specs::Books::limit, ledger::specs::Laws::of))]
+    pub(crate) fn total_of(&self, item: u32) -> u64
+        ensures sum { result ≡ total (line_book self.now) item }
+        ensures within { result ≤ limit }
+    {
+        let mut sum: u64 = 0;
+        for p in &self.rows {
+            if p.item == item {
+                sum += p.free + p.held;
+            }
         }
+        sum
     }
-    sum
-}
-
-// Item 0 is money, every other a security.
-pub(crate) fn any_money(rows: &[PairRecord], used: usize) -> bool
-    requires { Kept rows.now used }
-    ensures { result ≡ any_money (look rows.now used) }
-{
-    for k in 0..used {
-        if rows[k].item == 0 && rows[k].held > 0 {
-            return true;
-        }
-    }
-    false
-}
-
-pub(crate) fn any_security(rows: &[PairRecord], used: usize) -> bool
-    requires { Kept rows.now used }
-    ensures { result ≡ any_security (look rows.now used) }
-{
-    for k in 0..used {
-        if rows[k].item != 0 && rows[k].held > 0 {
-            return true;
-        }
-    }
-    false
 }

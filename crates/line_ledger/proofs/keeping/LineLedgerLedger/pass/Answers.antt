@@ -1,25 +1,9 @@
-use Rattle.std.proofs.Common.{◌≡◌, length, drop, refl, arith}
-use Rattle.ledger.specs.Moves.{pass_answer, pass_after}
-use Rattle.line_ledger.proofs.Lending.{filled_kept, lent_answer, lent_after}
+use Rattle.std.proofs.Common.{arith}
+use Rattle.std.proofs.lemmas.Grind.{common_steps}
+use Rattle.line_ledger.proofs.Writing.{kept_again}
 use Rattle.line_ledger.proofs.keeping.LineLedgerLedger.pass.Goals as goal
 
-pub invariant_of-self : goal.invariant_of-self
-invariant_of-self c =
-    let s = c.args.self.now in
-    let ws = c.pass_in.new.rows in
-    let l : length ws ≡ s.places.len = omega arith in
-    let K = filled_kept s.places.len s.used ws (drop (length ws) s.places.items) l c.pass_in.ensures.kept in
-    record { within = s.within; few = s.few; apart = K.apart; ranged = K.ranged; bounded = K.bounded }
-
-pub returns : goal.returns
-returns c =
-    let s = c.args.self.now in
-    let ws = c.pass_in.new.rows in
-    let l : length ws ≡ s.places.len = omega arith in
-    let v = c.deref_mut.ensures.value in
-    let e = c.pass_in.ensures in
-    record {
-      answer = lent_answer (λ m. pass_answer m c.args.from c.args.to c.args.item c.args.n) _ _ s.places.items s.used v e.answer;
-      after = lent_after (λ m. pass_after m c.args.from c.args.to c.args.item c.args.n) s.places.len _ s.places.items ws (drop (length ws) s.places.items) s.used l v e.after;
-      room = refl;
-    }
+pub invariant_of-self-clause-kept : goal.invariant_of-self-clause-kept
+invariant_of-self-clause-kept c =
+    kept_again _ _ c.index_mut.result.now _ _ _ c.index_mut-2.result.now _ _ c.args.self.now.kept c.in_ok-giver.ensures.inside c.in_ok-taker.ensures.inside c.index_mut.ensures.value
+    (grind (arith, common_steps)) (grind (arith, common_steps)) c.index_mut-2.ensures.value (grind (arith, common_steps))

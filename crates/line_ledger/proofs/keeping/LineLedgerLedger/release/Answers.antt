@@ -1,25 +1,10 @@
-use Rattle.std.proofs.Common.{◌≡◌, length, drop, refl, arith}
-use Rattle.ledger.specs.Moves.{release_answer, release_after}
-use Rattle.line_ledger.proofs.Lending.{filled_kept, lent_answer, lent_after}
+use Rattle.std.proofs.Common.{arith}
+use Rattle.std.proofs.lemmas.Grind.{common_steps}
+use Rattle.ledger.specs.Books.{limit}
+use Rattle.line_ledger.proofs.Writing.{row_fits, kept_written}
 use Rattle.line_ledger.proofs.keeping.LineLedgerLedger.release.Goals as goal
 
-pub invariant_of-self : goal.invariant_of-self
-invariant_of-self c =
-    let s = c.args.self.now in
-    let ws = c.release_in.new.rows in
-    let l : length ws ≡ s.places.len = omega arith in
-    let K = filled_kept s.places.len s.used ws (drop (length ws) s.places.items) l c.release_in.ensures.kept in
-    record { within = s.within; few = s.few; apart = K.apart; ranged = K.ranged; bounded = K.bounded }
-
-pub returns : goal.returns
-returns c =
-    let s = c.args.self.now in
-    let ws = c.release_in.new.rows in
-    let l : length ws ≡ s.places.len = omega arith in
-    let v = c.deref_mut.ensures.value in
-    let e = c.release_in.ensures in
-    record {
-      answer = lent_answer (λ m. release_answer m c.args.account c.args.item c.args.n) _ _ s.places.items s.used v e.answer;
-      after = lent_after (λ m. release_after m c.args.account c.args.item c.args.n) s.places.len _ s.places.items ws (drop (length ws) s.places.items) s.used l v e.after;
-      room = refl;
-    }
+pub invariant_of-self-2-clause-kept : goal.invariant_of-self-2-clause-kept
+unfolding limit
+invariant_of-self-2-clause-kept c =
+    kept_written _ _ c.index_mut-p.result.now _ _ c.args.self.now.kept c.in_ok-k.ensures.inside c.index_mut-p.ensures.value (grind (arith, common_steps, row_fits))
