@@ -4,7 +4,7 @@ use native.Mathlib.Nat.{pow-le-pow_right}
 use Rattle.std.specs.Int.Digits.{number_from_digits}
 use Rattle.std.proofs.lemmas.Int.Digits.{number_push}
 use Rattle.std.proofs.lemmas.List.{take_all, drop_all, drop_more, map_more}
-use Rattle.std.proofs.lemmas.Bool.{le-leb, lt-leb, and_from, and_left, and_right, cond-true, cond-false, false≢true}
+use Rattle.std.proofs.lemmas.Bool.{le-leb, leb-true, and_parts, and_from, and_left, and_right, cond-true, cond-false, false≢true}
 use Rattle.sheet_text.specs.Figures.{digit, is_digit, all_digits, decimal, figure}
 
 -- the first i bytes of t are digits, and write n
@@ -23,11 +23,11 @@ module _ (t : List ℕ) (i n : ℕ) (h : Sofar t i n) where
       let m : 10 ^ i ≤ 10 ^ 17 = pow-le-pow_right {n = 10} (omega arith) {i = i} {j = 17} (omega arith) in
       omega (arith, h.bound)
 
-  pub one_more : i < length t → 48 ≤ get_or t i 0 → get_or t i 0 ≤ 57 → Sofar t (i + 1) (n * 10 + (get_or t i 0 - 48))
-  one_more lt low high =
+  pub one_more : i < length t → is_digit (get_or t i 0) ≡ true → Sofar t (i + 1) (n * 10 + (get_or t i 0 - 48))
+  one_more lt is =
       let x : ℕ = get_or t i 0 in
+      let few : x ≤ 57 = leb-true x 57 (and_parts (leb 48 x) (leb x 57) is).1 in
       let more : all_digits (drop i t) ≡ (is_digit x && all_digits (drop (i + 1) t)) = ap all_digits (drop_more t i 0 lt) in
-      let is : is_digit x ≡ true = and_from _ _ (le-leb 48 x low) (le-leb x 57 high) in
       let power : 10 ^ (i + 1) ≡ 10 ^ i * 10 = ap (λ k. 10 ^ k) (add-one i) ∙ pow-suc 10 i in
       record {
         value = ap (λ m. m * 10 + (x - 48)) h.value ∙ sym (number_push 10 (map digit (take i t)) (digit x)) ∙ ap (number_from_digits 10) (sym (map_more digit t i 0 lt));
@@ -50,12 +50,6 @@ module _ (t : List ℕ) (i n : ℕ) (h : Sofar t i n) where
 
 pub refused : (t : List ℕ) → all_digits t ≡ false → None ≡ figure t
 refused t e = sym (cond-false _ (Some (decimal t)) None (and_right (leb 1 (length t)) _ (and_right (leb (length t) 18) _ e)))
-
-pub too_low : (x : ℕ) → x < 48 → is_digit x ≡ false
-too_low x lt = and_left _ _ (lt-leb 48 x lt)
-
-pub too_high : (x : ℕ) → 57 < x → is_digit x ≡ false
-too_high x lt = and_right _ _ (lt-leb x 57 lt)
 
 pub some_bytes : (t : List ℕ) → false ≡ eqb (length t) 0 → 1 ≤ length t
 some_bytes [] e = absurd (false≢true e)
