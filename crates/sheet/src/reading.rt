@@ -18,17 +18,16 @@ impl<'a> Reader<'a> {
         ensures answer { opened result ≡ opening sheet.now }
         ensures lines { LinesOf sheet.now }
     {
-        if sheet.len() <= MOST_BYTES {
-            Ok(Reader {
-                rest: sheet,
-                place: 1,
-            })
-        } else {
-            Err(Fault {
+        if sheet.len() > MOST_BYTES {
+            return Err(Fault {
                 refusal: Refusal::SheetTooLong,
                 field: 0,
-            })
+            });
         }
+        Ok(Reader {
+            rest: sheet,
+            place: 1,
+        })
     }
 
     // Hands out the next line with its place, or `None` where all are handed out.
@@ -37,13 +36,10 @@ impl<'a> Reader<'a> {
         ensures after { left self.new ≡ rest_of (left self.old) }
         ensures step { left self.old ≡ then result (left self.new) }
     {
-        let Some((line, rest)) = first_line(self.rest) else {
-            return None;
-        };
+        let (line, rest) = first_line(self.rest)?;
         let place = self.place;
         self.rest = rest;
-        // The count never reaches its end: no sheet has so many lines.
-        self.place = place.saturating_add(1);
+        self.place += 1;
         Some(Numbered {
             place,
             line: read_line(line),
