@@ -1,5 +1,5 @@
 ghost use Rattle.std.specs.Prelude.{◌≡◌};
-ghost use Rattle.answers.specs.declared.answer.NotDone.TheVariants.{Sheet, Call};
+ghost use Rattle.answers.specs.declared.answer.NotDone.TheVariants.{Sheet};
 
 use market::Refusal;
 use rules::Refused;
@@ -24,13 +24,5 @@ impl From<Fault> for NotDone {
 
     fn from(fault: Fault) -> NotDone {
         NotDone::Sheet(fault)
-    }
-}
-
-impl From<Refused> for NotDone {
-    ghost from_gives = { λ refused e. e ≡ Call refused };
-
-    fn from(refused: Refused) -> NotDone {
-        NotDone::Call(refused)
     }
 }

@@ -2,17 +2,20 @@
 --   most_figure              no figure of a security may be larger
 --   writable c k l h         whether the code c, the class k, the lowest price l and the highest h are no larger
 --   list_entry c k l h       the entry of a list that they make
---   with_entry b e           the entry e where b holds
+--   out_of_range, too_many   how the sheet refuses a figure that is too large, and a 65th security
+--   small n                  the figure n, or that refusal where it is too large
+--   entry_or_fault c k l h   the entry that they make, or that refusal where one is too large
 --   gather_answer g c k l h  what a line with them is answered behind the gathered g: 11 by the sheet for a figure that
 --                            is too large, then 44 where 64 are gathered
 --   gather_after g c k l h   what is gathered afterwards
-use Rattle.std.specs.Prelude.{ℕ, Bool, true, false, cond, ◌&&◌, List, [], ◌∷◌, ◌++◌, length, Some, None, Option, nat_le, nat_lt}
+use Rattle.std.specs.Prelude.{ℕ, Bool, cond, ◌&&◌, List, [], ◌∷◌, ◌++◌, length, Ok, Err, Result, nat_le, nat_lt}
 use Rattle.market.specs.declared.refusal.Refusal.TheVariants.{OutOfRange, BadList}
 use Rattle.rules.specs.declared.security.ListEntry.{ListEntry}
 use Rattle.rules.specs.Listing.{most_securities}
+use Rattle.sheet.specs.declared.fault.Fault.{Fault}
 use Rattle.sheet.specs.Faults.{fault}
-use Rattle.answers.specs.declared.answer.Answer.{Answer}
-use Rattle.answers.specs.declared.answer.Answer.TheVariants.{Done, Sheet}
+use Rattle.answers.specs.Answers.{Answer}
+use Rattle.answers.specs.declared.answer.NotDone.TheVariants.{Sheet}
 
 abbrev pub most_figure : ℕ
 most_figure = 99999999
@@ -23,13 +26,21 @@ writable c k l h = nat_le c most_figure && (nat_le k most_figure && (nat_le l mo
 abbrev pub list_entry : ℕ → ℕ → ℕ → ℕ → ListEntry
 list_entry c k l h = record { code = c; class = k; low = l; high = h }
 
-abbrev pub with_entry : Bool → ListEntry → Option ListEntry
-with_entry true e = Some e
-with_entry false e = None
+abbrev pub out_of_range : Fault
+out_of_range = fault OutOfRange 0
+
+abbrev pub too_many : Fault
+too_many = fault BadList 0
+
+abbrev pub small : ℕ → Result ℕ Fault
+small n = cond (nat_le n most_figure) (Ok n) (Err out_of_range)
+
+abbrev pub entry_or_fault : ℕ → ℕ → ℕ → ℕ → Result ListEntry Fault
+entry_or_fault c k l h = cond (writable c k l h) (Ok (list_entry c k l h)) (Err out_of_range)
 
 abbrev pub gather_answer : List ListEntry → ℕ → ℕ → ℕ → ℕ → Answer
 gather_answer g c k l h =
-    cond (writable c k l h) (cond (nat_lt (length g) most_securities) (Done 0) (Sheet (fault BadList 0))) (Sheet (fault OutOfRange 0))
+    cond (writable c k l h) (cond (nat_lt (length g) most_securities) (Ok 0) (Err (Sheet too_many))) (Err (Sheet out_of_range))
 
 abbrev pub gather_after : List ListEntry → ℕ → ℕ → ℕ → ℕ → List ListEntry
 gather_after g c k l h = cond (writable c k l h) (cond (nat_lt (length g) most_securities) (g ++ (list_entry c k l h ∷ [])) g) g
