@@ -1,20 +1,17 @@
 -- What one turn of `figure` keeps.
-use Rattle.std.proofs.Common.{◌≡◌, ℕ, ◌+◌, ◌-◌, ◌*◌, ◌^◌, ◌<◌, ◌≤◌, true, false, ◌&&◌, eqb, leb, List, [], ◌∷◌, map, length, get_or, take, drop, Some, None, sym, refl, ap, ◌∙◌, pow-suc, add-one, arith}
+use Rattle.std.proofs.Common.{◌≡◌, ℕ, ◌+◌, ◌-◌, ◌*◌, ◌^◌, ◌<◌, ◌≤◌, true, ◌&&◌, leb, List, map, length, get_or, take, drop, sym, ap, ◌∙◌, pow-suc, add-one, arith}
 use native.Mathlib.Nat.{pow-le-pow_right}
 use Rattle.std.specs.Int.Digits.{number_from_digits}
 use Rattle.std.proofs.lemmas.Int.Digits.{number_push}
-use Rattle.std.proofs.lemmas.List.{take_all, drop_all, drop_more, map_more}
-use Rattle.std.proofs.lemmas.Bool.{le-leb, leb-true, and_parts, and_from, and_left, and_right, cond-true, cond-false, false≢true}
-use Rattle.sheet_text.specs.Figures.{digit, is_digit, all_digits, decimal, figure}
+use Rattle.std.proofs.lemmas.List.{drop_more, map_more}
+use Rattle.std.proofs.lemmas.Bool.{leb-true, and_parts}
+use Rattle.sheet_text.specs.Figures.{digit, is_digit, all_digits, decimal}
 
 -- the first i bytes of t are digits, and write n
 pub record Sofar (t : List ℕ) (i n : ℕ) : Type 0 where
   pub value : n ≡ decimal (take i t)
   pub bound : n < 10 ^ i
   pub rest : all_digits t ≡ all_digits (drop i t)
-
-pub none : (t : List ℕ) → Sofar t 0 0
-none t = record { value = refl; bound = omega arith; rest = refl }
 
 module _ (t : List ℕ) (i n : ℕ) (h : Sofar t i n) where
   -- ten times the number so far fits
@@ -34,23 +31,3 @@ module _ (t : List ℕ) (i n : ℕ) (h : Sofar t i n) where
         bound = omega (arith, h.bound);
         rest = h.rest ∙ more ∙ ap (λ b. b && all_digits (drop (i + 1) t)) is;
       }
-
-  -- a byte that is no digit
-  pub stops : i < length t → is_digit (get_or t i 0) ≡ false → all_digits t ≡ false
-  stops lt no_digit =
-      let x : ℕ = get_or t i 0 in
-      let more : all_digits (drop i t) ≡ (is_digit x && all_digits (drop (i + 1) t)) = ap all_digits (drop_more t i 0 lt) in
-      h.rest ∙ more ∙ and_left _ _ no_digit
-
-  pub done : length t ≤ i → 1 ≤ length t → length t ≤ 18 → Some n ≡ figure t
-  done le some few =
-      let all : all_digits t ≡ true = h.rest ∙ ap all_digits (drop_all i t le) in
-      ap Some (h.value ∙ ap decimal (take_all i t le))
-      ∙ sym (cond-true _ (Some (decimal t)) None (and_from _ _ (le-leb 1 (length t) some) (and_from _ _ (le-leb (length t) 18 few) all)))
-
-pub refused : (t : List ℕ) → all_digits t ≡ false → None ≡ figure t
-refused t e = sym (cond-false _ (Some (decimal t)) None (and_right (leb 1 (length t)) _ (and_right (leb (length t) 18) _ e)))
-
-pub some_bytes : (t : List ℕ) → false ≡ eqb (length t) 0 → 1 ≤ length t
-some_bytes [] e = absurd (false≢true e)
-some_bytes (x ∷ xs) e = omega arith

@@ -1,10 +1,6 @@
 use Rattle.std.proofs.Common.{arith, sym}
-use Rattle.sheet_text.proofs.Reading.{room, one_more, stops, done, refused, some_bytes}
+use Rattle.sheet_text.proofs.Reading.{room, one_more}
 use Rattle.sheet_text.proofs.figures.figure.Goals as goal
-
-pub returns-then-not-is_ascii_digit : goal.returns-then-not-is_ascii_digit
-returns-then-not-is_ascii_digit c =
-    refused c.args.text.now (stops c.args.text.now _ _ c.loop-b.invariant c.loop-b-test.true (sym c.if-not-is_ascii_digit.ensures.value))
 
 pub overflow_mul-n : goal.overflow_mul-n
 overflow_mul-n c = omega (arith, room _ _ _ c.loop-b.invariant (omega arith))
@@ -14,7 +10,3 @@ overflow_add-n c = omega (arith, room _ _ _ c.loop-b.invariant (omega arith))
 
 pub loop-b-preserved : goal.loop-b-preserved
 loop-b-preserved c = rw c.from.ensures (one_more _ _ _ c.loop-b.invariant c.loop-b-test.true (sym c.if-not-is_ascii_digit.ensures.value))
-
-pub returns : goal.returns
-returns c =
-    done c.args.text.now _ _ c.loop-b.invariant c.loop-b-test.false (some_bytes c.args.text.now c.if-is_empty.ensures) c.if-text-gt-MOST_DIGITS.false
