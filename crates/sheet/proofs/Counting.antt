@@ -8,7 +8,7 @@ use Rattle.sheet.specs.declared.fault.Fault.{Fault}
 use Rattle.sheet.specs.Faults.{fault}
 use Rattle.sheet.specs.Told.{Told}
 use Rattle.sheet.specs.Parsing.{parsed}
-use Rattle.sheet.specs.Handing.{Handed, numbered, sheet_lines, first_of, rest_of, opening}
+use Rattle.sheet.specs.Handing.{Handed, numbered, sheet_lines, opening}
 
 abbrev lines_by : Option (List ℕ × List ℕ) → List (List ℕ)
 lines_by None = []
@@ -18,17 +18,10 @@ begun : (t : List ℕ) → lines t ≡ lines_by (first_line t)
 begun [] = refl
 begun (b ∷ bs) = lines_step b bs
 
-module _ (k : ℕ) (t l r : List ℕ) (x : Told) (e : Some (l, r) ≡ first_line t) (says : x ≡ parsed l) where
-  pub step : numbered k (lines t) ≡ record { place = k; line = x } ∷ numbered (k + 1) (lines r)
-  step =
-      ap (numbered k) (begun t ∙ ap lines_by (sym e))
-      ∙ sym (λ i. record { place = k; line = says i } ∷ numbered (k + 1) (lines r))
-
-  pub answer : Some (record { place = k; line = x }) ≡ first_of (numbered k (lines t))
-  answer = sym (ap first_of step)
-
-  pub after : numbered (k + 1) (lines r) ≡ rest_of (numbered k (lines t))
-  after = sym (ap rest_of step)
+pub step : (k : ℕ) (t l r : List ℕ) (x : Told) → Some (l, r) ≡ first_line t → x ≡ parsed l → numbered k (lines t) ≡ record { place = k; line = x } ∷ numbered (k + 1) (lines r)
+step k t l r x e says =
+    ap (numbered k) (begun t ∙ ap lines_by (sym e))
+    ∙ sym (λ i. record { place = k; line = says i } ∷ numbered (k + 1) (lines r))
 
 -- no line is left
 pub none_left : (k : ℕ) (t : List ℕ) → None ≡ first_line t → numbered k (lines t) ≡ []

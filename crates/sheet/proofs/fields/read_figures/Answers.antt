@@ -4,12 +4,9 @@ use Rattle.std.proofs.lemmas.List.{take_rest}
 use Rattle.sheet_text.specs.Figures.{figure}
 use Rattle.sheet.specs.Faults.{no_figure}
 use Rattle.sheet.specs.Gathered.{gathered}
-use Rattle.sheet.proofs.Gathering.{missing, no_digits, one_more}
+use Rattle.sheet.proofs.Gathering.{no_digits, one_more}
 use Rattle.sheet.proofs.Refusing.{value_of, error_of}
 use Rattle.sheet.proofs.fields.read_figures.Goals as goal
-
-pub returns-in_default : goal.returns-in_default
-returns-in_default c = missing _ _ _ _ _ c.loop-i.invariant c.loop-i-test.true (search (rules, ltb-true))
 
 pub returns-in_err-numbers : goal.returns-in_err-numbers
 returns-in_err-numbers c =

@@ -1,20 +1,14 @@
 use Rattle.std.proofs.Common.{sym, ap, ◌∙◌}
 use Rattle.std.specs.Option.{option_map}
 use Rattle.sheet.specs.Handing.{left, handed, first_of, rest_of, then}
-use Rattle.sheet.proofs.Counting.{step, answer, after, none_left, few_behind}
+use Rattle.sheet.proofs.Counting.{step, none_left, few_behind}
 use Rattle.sheet.proofs.reader.Reader.next_line.Goals as goal
 
 pub returns : goal.returns
 unfolding left
 returns c =
-    let e = c.in_ok-line.ensures in
-    let says = c.read_line.ensures.answer in
-    let t = c.args.self.now.rest.now in
-    record {
-      answer = answer _ t _ _ _ e says;
-      after = after _ t _ _ _ e says;
-      step = step _ t _ _ _ e says;
-    }
+    let e = step c.args.self.now.place c.args.self.now.rest.now _ _ _ c.in_ok-line.ensures c.read_line.ensures.answer in
+    record { answer = sym (ap first_of e); after = sym (ap rest_of e); step = e }
 
 pub returns-in_err-line : goal.returns-in_err-line
 unfolding left
