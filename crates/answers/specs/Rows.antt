@@ -1,7 +1,11 @@
 -- The printed rows of answers.
 --   layer_text l     the bytes of a layer's name
---   notice_of e      what a row says of the refusal e: the layer, the refusal, and what it points at
---   notice_text n    the bytes of a notice; figures are in decimal digits
+--   refused l e n    what a row says of the refusal e by the layer l, pointing at n
+--   notice_of_refusal x   the same of a line that was not done for x
+--   notice_of a      what a row says of the answer a
+--   done_text k n    the row of line k that was done and wrote n lines; figures are in decimal digits
+--   refused_text k l r n   the row of line k that the layer l refused with the number r, pointing at n
+--   notice_text k n  the row of line k that says n
 --   row_text k a     the row of line k that was answered a
 --   rows_text k as   the rows of the answers as, the first of them to line k
 --   printed r        all rows of a sheet; of one that is refused whole, the one row of line 0
@@ -24,22 +28,32 @@ layer_text by_sheet = codes "sheet"
 layer_text by_floor = codes "floor"
 layer_text by_ledger = codes "ledger"
 
-abbrev pub notice : Layer → Refusal → ℕ → Notice
-notice l e n = record { layer = l; refusal = e; figure = n }
+abbrev pub refused : Layer → Refusal → ℕ → Notice
+refused l e n = record { layer = l; refusal = e; figure = n }
 
-abbrev pub notice_of : NotDone → Notice
-notice_of (Sheet f) = notice by_sheet f.refusal f.field
-notice_of (Call (Floor e)) = notice by_floor e 0
-notice_of (Call (list_refused k)) = notice by_floor BadList k
-notice_of (Call (Ledger e i)) = notice by_ledger e i
-notice_of (Pair e i) = notice by_ledger e i
+abbrev pub notice_of_refusal : NotDone → Notice
+notice_of_refusal (Sheet f) = refused by_sheet f.refusal f.field
+notice_of_refusal (Call (Floor e)) = refused by_floor e 0
+notice_of_refusal (Call (list_refused k)) = refused by_floor BadList k
+notice_of_refusal (Call (Ledger e i)) = refused by_ledger e i
+notice_of_refusal (Pair e i) = refused by_ledger e i
 
-abbrev pub notice_text : Notice → List ℕ
-notice_text n = layer_text n.layer ++ (32 ∷ (decimal (refusal_number n.refusal) ++ (32 ∷ decimal n.figure)))
+abbrev pub notice_of : Answer → Result ℕ Notice
+notice_of (Ok n) = Ok n
+notice_of (Err x) = Err (notice_of_refusal x)
+
+abbrev pub done_text : ℕ → ℕ → List ℕ
+done_text k n = decimal k ++ (codes " ok " ++ (decimal n ++ (10 ∷ [])))
+
+abbrev pub refused_text : ℕ → List ℕ → ℕ → ℕ → List ℕ
+refused_text k layer number figure = decimal k ++ (32 ∷ (layer ++ (32 ∷ (decimal number ++ (32 ∷ (decimal figure ++ (10 ∷ [])))))))
+
+abbrev pub notice_text : ℕ → Result ℕ Notice → List ℕ
+notice_text k (Ok n) = done_text k n
+notice_text k (Err x) = refused_text k (layer_text x.layer) (refusal_number x.refusal) x.figure
 
 abbrev pub row_text : ℕ → Answer → List ℕ
-row_text k (Ok n) = decimal k ++ (codes " ok " ++ (decimal n ++ (10 ∷ [])))
-row_text k (Err e) = decimal k ++ (32 ∷ (notice_text (notice_of e) ++ (10 ∷ [])))
+row_text k a = notice_text k (notice_of a)
 
 abbrev pub rows_text : ℕ → List Answer → List ℕ
 rows_text k [] = []

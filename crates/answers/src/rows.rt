@@ -22,8 +22,13 @@ impl fmt::Display for Row {
         match self.answer {
             Ok(lines) => writeln!(f, "{place} ok {lines}"),
             Err(not_done) => {
-                let notice = Notice::from(not_done);
-                writeln!(f, "{place} {notice}")
+                let Notice {
+                    layer,
+                    refusal,
+                    figure,
+                } = Notice::from(not_done);
+                let number = refusal.number();
+                writeln!(f, "{place} {layer} {number} {figure}")
             }
         }
     }

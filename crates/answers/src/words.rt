@@ -1,5 +1,5 @@
 ghost use Rattle.std.specs.Prelude.{◌≡◌, Some};
-ghost use Rattle.answers.specs.Rows.{layer_text, notice_of, notice_text};
+ghost use Rattle.answers.specs.Rows.{layer_text, notice_of_refusal};
 
 use crate::answer::NotDone;
 use market::Refusal;
@@ -34,20 +34,9 @@ pub(crate) struct Notice {
     pub(crate) figure: u64,
 }
 
-impl fmt::Display for Notice {
-    ghost output = { λ notice. Some (notice_text notice) };
-
-    fn fmt<W: fmt::Write>(&self, f: &mut fmt::Formatter<W>) -> fmt::Result {
-        let layer = self.layer;
-        let number = self.refusal.number();
-        let figure = self.figure;
-        write!(f, "{layer} {number} {figure}")
-    }
-}
-
 // A sheet's refusal points at a field, a faulty list at its entry, the ledger's refusal at an item.
 impl From<NotDone> for Notice {
-    ghost from_gives = { λ not_done notice. notice ≡ notice_of not_done };
+    ghost from_gives = { λ not_done notice. notice ≡ notice_of_refusal not_done };
 
     fn from(not_done: NotDone) -> Notice {
         let (layer, refusal, figure) = match not_done {

@@ -1,6 +1,8 @@
 ghost use Rattle.std.specs.Prelude.{◌≡◌, [], IfOk};
 ghost use Rattle.sheet.specs.Faults.{fault};
-ghost use Rattle.practice.specs.Gathering.{small, entry_or_fault, gather_answer, gather_after};
+ghost use Rattle.std.specs.Option.{ok_or};
+ghost use Rattle.market.specs.declared.refusal.Refusal.TheVariants.{OutOfRange};
+ghost use Rattle.practice.specs.Gathering.{small, writable, list_entry, with_entry, gather_answer, gather_after};
 
 use crate::gathered::Gathered;
 use answers::Answer;
@@ -30,7 +32,7 @@ fn small(figure: u64) -> Result<u32, Fault>
 }
 
 fn entry_of(code: u64, class: u64, low: u64, high: u64) -> Result<ListEntry, Fault>
-    ensures { result ≡ entry_or_fault code class low high }
+    ensures { result ≡ ok_or (with_entry (writable code class low high) (list_entry code class low high)) (fault OutOfRange 0) }
 {
     Ok(ListEntry {
         code: small(code)?,

@@ -1,14 +1,15 @@
 -- The lines of a sheet as a reader hands them out.
 --   Handed           a line with its place in the sheet
---   numbered k ls    what the lines ls say, the first of them standing at place k
+--   numbered f k ls  what the lines ls say, the first of them standing at place k and each next at f of the one before
 --   sheet_lines t    the same of all lines of the sheet t, counted 1, 2, 3 and so on
+--   next_place k     the place behind k in a count of 64 bits, which stops at its end; no sheet has so many lines
 --   left r           what the reader r has still to hand out
 --   handed x         what an answer of the reader says
 --   then a hs        what a reader had left that answered a and now has hs left
 --   first_of hs, rest_of hs   the first of some lines, if any, and the others
 --   opening t        what a reader of the sheet t has to hand out, or the refusal of a sheet over 65,536 bytes
 --   opened r         what the reader in r has to hand out, or the refusal
-use Rattle.std.specs.Prelude.{ℕ, ◌+◌, cond, List, [], ◌∷◌, length, Some, None, Ok, Err, Option, Result, nat_le}
+use Rattle.std.specs.Prelude.{ℕ, ◌+◌, min, cond, List, [], ◌∷◌, length, Some, None, Ok, Err, Option, Result, nat_le}
 use Rattle.market.specs.declared.refusal.Refusal.TheVariants.{SheetTooLong}
 use Rattle.sheet_text.specs.Lines.{lines}
 use Rattle.sheet.specs.declared.fault.Fault.{Fault}
@@ -22,15 +23,18 @@ pub record Handed : Type 0 where
   pub place : ℕ
   pub line : Told
 
-abbrev pub numbered : ℕ → List (List ℕ) → List Handed
-numbered k [] = []
-numbered k (l ∷ ls) = record { place = k; line = parsed l } ∷ numbered (k + 1) ls
+abbrev pub numbered : (ℕ → ℕ) → ℕ → List (List ℕ) → List Handed
+numbered f k [] = []
+numbered f k (l ∷ ls) = record { place = k; line = parsed l } ∷ numbered f (f k) ls
 
 abbrev pub sheet_lines : List ℕ → List Handed
-sheet_lines t = numbered 1 (lines t)
+sheet_lines t = numbered (λ k. k + 1) 1 (lines t)
+
+abbrev pub next_place : ℕ → ℕ
+next_place k = min (k + 1) 18446744073709551615
 
 unfoldable pub left : Reader → List Handed
-left r = numbered r.place (lines r.rest.now)
+left r = numbered next_place r.place (lines r.rest.now)
 
 abbrev pub handed : Numbered → Handed
 handed x = record { place = x.place; line = says x.line }

@@ -27,6 +27,7 @@ fn close_line<'a>(form: Form, fields: &'a [u8], found: Figures<'a>) -> Result<Li
 }
 
 // What one line of a sheet says, or why it is refused.
+#[tactic(auto, using(crate::proofs::Closing::nothing, crate::proofs::Writing::told_written, crate::proofs::Rereading::told_only))]
 pub fn read_line(line: &[u8]) -> Result<Line<'_>, Fault>
     ensures answer { says result ≡ parsed line.now }
     ensures written { Written line.now (says result) }

@@ -5,6 +5,7 @@ ghost use Rattle.sheet_text.specs.Figures.{figure as the_figure};
 const MOST_DIGITS: usize = 18;
 
 // The number that 1 to 18 decimal digits write.
+#[tactic(auto, using(crate::proofs::Reading::room))]
 pub fn figure(text: &[u8]) -> Option<u64>
     ensures { result ≡ the_figure text.now }
 {

@@ -4,24 +4,18 @@ use Rattle.sheet.specs.Codes.{announced}
 use Rattle.sheet.specs.Faults.{unknown}
 use Rattle.sheet.specs.Parsing.{closed, parsed}
 use Rattle.sheet.specs.Told.{refused, says}
-use Rattle.sheet.proofs.Closing.{nothing, no_code, whole}
+use Rattle.sheet.proofs.Closing.{no_code, whole}
 use Rattle.sheet.proofs.Refusing.{value_of, error_of}
 use Rattle.sheet.proofs.Rereading.{told_only}
 use Rattle.sheet.proofs.Writing.{told_written}
 use Rattle.sheet.proofs.parsing.read_line.Goals as goal
 
-pub returns-then-is_empty : goal.returns-then-is_empty
-returns-then-is_empty c =
-    let e = nothing c.args.line.now c.if-is_empty.ensures in
-    record { answer = e; written = told_written c.args.line.now _ e; only = told_only c.args.line.now _ e }
-
-pub returns-in_err-form : goal.returns-in_err-form
-returns-in_err-form c =
+pub returns-in_err-form-clause-answer : goal.returns-in_err-form-clause-answer
+returns-in_err-form-clause-answer c =
     let none : (None ≡ c.split_code.result) × (c.in_err-form.field-0.0 ≡ unknown) = error_of _ _ _ (sym c.ok_or.ensures.value ∙ c.in_err-form.was) in
     let is : c.from_residual.result ≡ Err c.in_err-form.field-0.0 = search rules in
     let told : refused c.in_err-form.field-0.0 ≡ parsed c.args.line.now = ap refused none.1 ∙ no_code c.args.line.now c.if-is_empty.ensures (ap (option_map (λ p. (p.0, p.1.now))) none.0 ∙ c.split_code.ensures) in
-    let e = ap says is ∙ told in
-    record { answer = e; written = told_written c.args.line.now _ e; only = told_only c.args.line.now _ e }
+    ap says is ∙ told
 
 pub returns-in_err-found : goal.returns-in_err-found
 returns-in_err-found c =
