@@ -1,16 +1,28 @@
+ghost use Rattle.std.specs.Prelude.{◌≡◌};
+ghost use Rattle.answers.specs.declared.answer.NotDone.TheVariants.{Sheet};
+
 use market::Refusal;
 use rules::Refused;
 use sheet::Fault;
 
-// What a line of a sheet is answered.
+// Who refused a line of a sheet.
 #[derive(Clone, Copy)]
-pub enum Answer {
-    // Done, with so many lines written to the tape.
-    Done { lines: usize },
-    // Refused by the sheet itself.
+pub enum NotDone {
+    // The sheet itself.
     Sheet(Fault),
-    // Refused by a call of the floor.
+    // A call of the floor.
     Call(Refused),
-    // Refused by the ledger, which was to open a pair of this item.
+    // The ledger, which was to open a pair of this item.
     Pair { refusal: Refusal, item: u64 },
+}
+
+// What a line of a sheet is answered: how many lines it wrote to the tape, or who refused it.
+pub type Answer = Result<usize, NotDone>;
+
+impl From<Fault> for NotDone {
+    ghost from_gives = { λ fault e. e ≡ Sheet fault };
+
+    fn from(fault: Fault) -> NotDone {
+        NotDone::Sheet(fault)
+    }
 }

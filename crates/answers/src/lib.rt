@@ -5,5 +5,5 @@ mod answer;
 mod rows;
 mod words;
 
-pub use answer::Answer;
+pub use answer::{Answer, NotDone};
 pub use rows::text_of;

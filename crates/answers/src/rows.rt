@@ -1,48 +1,48 @@
-ghost use Rattle.std.specs.Prelude.{◌≡◌, ◌++◌, IfOk, string_bytes, OnOk};
-ghost use Rattle.answers.specs.Rows.{done_text, refused_text, row_text, rows_text, printed};
+ghost use Rattle.std.specs.Prelude.{◌≡◌, ◌++◌, IfOk, Some, string_bytes, OnOk};
+ghost use Rattle.answers.specs.Rows.{row_text, rows_text, printed};
 
-use crate::answer::Answer;
-use crate::words::{Notice, notice_of};
+use crate::answer::{Answer, NotDone};
+use crate::words::Notice;
 use sheet::Fault;
 use std::alloc::{AllocError, Global};
+use std::fmt;
 
-fn done_row(heap: Global, place: usize, lines: u64) -> Result<String, AllocError>
-    ensures { IfOk result (λ s. string_bytes s ≡ done_text place lines) }
-{
-    format!(in heap; "{place} ok {lines}\n")
-}
-
-fn refused_row(
-    heap: Global,
+// The line's number, and what it was answered.
+#[derive(Clone, Copy)]
+struct Row {
     place: usize,
-    layer: &str,
-    number: u8,
-    figure: u64,
-) -> Result<String, AllocError>
-    ensures { IfOk result (λ s. string_bytes s ≡ refused_text place layer.now number figure) }
-{
-    format!(in heap; "{place} {layer} {number} {figure}\n")
+    answer: Answer,
 }
 
-// One row: the line's number, and what it was answered.
-fn row_of(heap: Global, place: usize, answer: Answer) -> Result<String, AllocError>
-    ensures { IfOk result (λ s. string_bytes s ≡ row_text place answer) }
-{
-    match notice_of(answer) {
-        Notice::Ok(lines) => done_row(heap, place, lines),
-        Notice::Refused {
-            layer,
-            refusal,
-            figure,
-        } => refused_row(heap, place, layer.text(), refusal.number(), figure),
+impl fmt::Display for Row {
+    ghost output = { λ row. Some (row_text row.place row.answer) };
+
+    fn fmt<W: fmt::Write>(&self, f: &mut fmt::Formatter<W>) -> fmt::Result {
+        let place = self.place;
+        match self.answer {
+            Ok(lines) => writeln!(f, "{place} ok {lines}"),
+            Err(not_done) => {
+                let Notice {
+                    layer,
+                    refusal,
+                    figure,
+                } = Notice::from(not_done);
+                let number = refusal.number();
+                writeln!(f, "{place} {layer} {number} {figure}")
+            }
+        }
     }
 }
 
-fn push_rows(heap: Global, out: &mut String, answers: &[Answer]) -> Result<(), AllocError>
+fn push_rows(out: &mut String, answers: &[Answer]) -> Result<(), AllocError>
     ensures { OnOk result (string_bytes out.new ≡ string_bytes out.old ++ rows_text 1 answers.now) }
 {
-    for k in 0..answers.len() {
-        out.push_str(row_of(heap, k + 1, answers[k])?.as_str())?;
+    for (k, answer) in answers.iter().enumerate() {
+        let row = Row {
+            place: k + 1,
+            answer: *answer,
+        };
+        write!(out, "{row}")?;
     }
     Ok(())
 }
@@ -54,9 +54,15 @@ pub fn text_of(heap: Global, answers: &Result<Vec<Answer>, Fault>) -> Result<Str
     match answers {
         Ok(each) => {
             let mut out = String::new(heap);
-            push_rows(heap, &mut out, each.as_slice())?;
+            push_rows(&mut out, each.as_slice())?;
             Ok(out)
         }
-        Err(fault) => row_of(heap, 0, Answer::Sheet(*fault)),
+        Err(fault) => {
+            let row = Row {
+                place: 0,
+                answer: Err(NotDone::from(*fault)),
+            };
+            row.to_string(heap)
+        }
     }
 }

@@ -1,9 +1,10 @@
-ghost use Rattle.std.specs.Prelude.{◌≡◌};
-ghost use Rattle.answers.specs.Rows.{layer_text, notice_of};
+ghost use Rattle.std.specs.Prelude.{◌≡◌, Some};
+ghost use Rattle.answers.specs.Rows.{layer_text, notice_of_refusal};
 
-use crate::answer::Answer;
+use crate::answer::NotDone;
 use market::Refusal;
 use rules::Refused;
+use std::fmt;
 
 // Who refuses.
 #[derive(Clone, Copy)]
@@ -13,53 +14,44 @@ pub(crate) enum Layer {
     Ledger,
 }
 
-impl Layer {
-    pub(crate) fn text(self) -> &'static str
-        ensures { result.now ≡ layer_text self }
-    {
-        match self {
+impl fmt::Display for Layer {
+    ghost output = { λ layer. Some (layer_text layer) };
+
+    fn fmt<W: fmt::Write>(&self, f: &mut fmt::Formatter<W>) -> fmt::Result {
+        f.write_str(match self {
             Layer::Sheet => "sheet",
             Layer::Floor => "floor",
             Layer::Ledger => "ledger",
-        }
+        })
     }
 }
 
-// What a row says: how many lines were written, or who refused why, and at what.
+// What a row says of a refusal: who refuses, why, and at what.
 #[derive(Clone, Copy)]
-pub(crate) enum Notice {
-    Ok(u64),
-    Refused {
-        layer: Layer,
-        refusal: Refusal,
-        figure: u64,
-    },
-}
-
-fn refused(layer: Layer, refusal: Refusal, figure: u64) -> Notice
-    ensures { result ≡ Notice.Refused layer refusal figure }
-{
-    Notice::Refused {
-        layer,
-        refusal,
-        figure,
-    }
+pub(crate) struct Notice {
+    pub(crate) layer: Layer,
+    pub(crate) refusal: Refusal,
+    pub(crate) figure: u64,
 }
 
 // A sheet's refusal points at a field, a faulty list at its entry, the ledger's refusal at an item.
-pub(crate) fn notice_of(answer: Answer) -> Notice
-    ensures { result ≡ notice_of answer }
-{
-    match answer {
-        Answer::Done { lines } => Notice::Ok(lines as u64),
-        Answer::Sheet(fault) => refused(Layer::Sheet, fault.refusal, fault.field as u64),
-        Answer::Call(Refused::Floor(refusal)) => refused(Layer::Floor, refusal, 0),
-        Answer::Call(Refused::List(entry)) => {
-            refused(Layer::Floor, Refusal::BadList, entry as u64)
+impl From<NotDone> for Notice {
+    ghost from_gives = { λ not_done notice. notice ≡ notice_of_refusal not_done };
+
+    fn from(not_done: NotDone) -> Notice {
+        let (layer, refusal, figure) = match not_done {
+            NotDone::Sheet(fault) => (Layer::Sheet, fault.refusal, fault.field as u64),
+            NotDone::Call(Refused::Floor(refusal)) => (Layer::Floor, refusal, 0),
+            NotDone::Call(Refused::List(entry)) => (Layer::Floor, Refusal::BadList, entry as u64),
+            NotDone::Call(Refused::Ledger(refusal, item)) => {
+                (Layer::Ledger, refusal, u64::from(item))
+            }
+            NotDone::Pair { refusal, item } => (Layer::Ledger, refusal, item),
+        };
+        Notice {
+            layer,
+            refusal,
+            figure,
         }
-        Answer::Call(Refused::Ledger(refusal, item)) => {
-            refused(Layer::Ledger, refusal, item as u64)
-        }
-        Answer::Pair { refusal, item } => refused(Layer::Ledger, refusal, item),
     }
 }

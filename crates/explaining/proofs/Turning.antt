@@ -1,5 +1,5 @@
 -- One row more of a text.
-use Rattle.std.proofs.Common.{◌≡◌, ℕ, ◌<◌, ◌≤◌, cond, eqb, List, [], ◌∷◌, ◌++◌, length, drop, is_ok, IfOk, Some, None, Ok, Err, Option, Result, sym, ap, ◌∙◌, append_assoc, arith, length-drop}
+use Rattle.std.proofs.Common.{◌≡◌, ℕ, ◌<◌, ◌≤◌, eqb, List, [], ◌∷◌, ◌++◌, length, drop, Some, None, Option, sym, ap, ◌∙◌, append_assoc, arith, length-drop}
 use Rattle.std.specs.List.{flat_map}
 use Rattle.std.proofs.lemmas.Bool.{cond_both}
 use Rattle.sheet_text.specs.Cuts.{before, onward}
@@ -37,11 +37,3 @@ less_left (x ∷ xs) row rest h =
     let l = length-drop 1 (onward 10 (x ∷ xs)) in
     let m = onward_le 10 (x ∷ xs) in
     omega (arith, p, l, m)
-
--- three pieces, the last by a call that may find no memory
-pub three_made : {X E : Type 0} (r : Result X E) (w p q s a b z : List ℕ) → a ≡ w ++ p → b ≡ a ++ q → z ≡ cond (is_ok r) (b ++ s) b → IfOk r (λ _. z ≡ w ++ ((p ++ q) ++ s))
-three_made (Ok x) w p q s a b z ea eb ez =
-    ez
-    ∙ ap (λ (v : List ℕ). v ++ s) (eb ∙ ap (λ (v : List ℕ). v ++ q) ea ∙ append_assoc w p q)
-    ∙ append_assoc w (p ++ q) s
-three_made (Err x) w p q s a b z ea eb ez = tt

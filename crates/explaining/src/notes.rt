@@ -7,7 +7,7 @@ ghost use Rattle.explaining.specs.Notes.{word, behind, number_note, note_by, not
 use crate::meaning::{meaning_of, refusal_numbered};
 use sheet_text::{cut, figure};
 
-const BLANK: u8 = 32;
+const BLANK: u8 = b' ';
 
 // What stands before the first blank.
 fn word(text: &[u8]) -> &[u8]
@@ -28,20 +28,17 @@ fn behind(text: &[u8]) -> &[u8]
     }
 }
 
-fn is_word(text: &[u8], word: &[u8]) -> bool
-    ensures { result ≡ bytes_eq text.now word.now }
-{
-    text == word
-}
-
 // The words for a refusal's number as it is printed.
 fn number_note(number: &[u8]) -> Option<&'static str>
     ensures { option_map (λ p. p.now) result ≡ number_note (figure_of number.now) }
 {
-    match refusal_numbered(figure(number)?) {
-        Some(refusal) => Some(meaning_of(refusal)),
-        None => None,
-    }
+    refusal_numbered(figure(number)?).map(meaning_of)
+}
+
+fn is_word(text: &[u8], word: &[u8]) -> bool
+    ensures { result ≡ bytes_eq text.now word.now }
+{
+    text == word
 }
 
 fn is_layer(text: &[u8]) -> bool
@@ -53,13 +50,11 @@ fn is_layer(text: &[u8]) -> bool
 fn note_by(layer: &[u8], number: &[u8]) -> Option<&'static str>
     ensures { option_map (λ p. p.now) result ≡ note_by layer.now number.now }
 {
-    if is_word(layer, b"ok") {
-        return Some("accepted");
+    match layer {
+        b"ok" => Some("accepted"),
+        _ if is_layer(layer) => number_note(number),
+        _ => None,
     }
-    if is_layer(layer) {
-        return number_note(number);
-    }
-    None
 }
 
 // What a row of the sheet program says, in words.

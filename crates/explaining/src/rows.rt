@@ -17,10 +17,10 @@ fn push_words(out: &mut Vec<u8>, words: &str) -> Result<(), AllocError>
 fn push_note(out: &mut Vec<u8>, note: Option<&'static str>) -> Result<(), AllocError>
     ensures { OnOk result (out.new.items ≡ out.old.items ++ in_brackets (option_map (λ p. p.now) note.entry)) }
 {
-    match note {
-        Some(words) => push_words(out, words),
-        None => Ok(()),
+    if let Some(words) = note {
+        push_words(out, words)?;
     }
+    Ok(())
 }
 
 fn push_row(out: &mut Vec<u8>, row: &[u8]) -> Result<(), AllocError>

@@ -7,7 +7,7 @@ use Rattle.rules.specs.State.{State}
 use Rattle.rules.specs.Plain.{Act}
 use Rattle.rules.specs.Replies.{Reply, left_by, accepted, Replied}
 use Rattle.rules.specs.Steps.{call, pair, replied, moved, Desk, pair_reply, pair_opened}
-use Rattle.answers.specs.declared.answer.Answer.{Answer}
+use Rattle.answers.specs.Answers.{Answer}
 use Rattle.practice.specs.Tasks.{Task, asks, reply_told, move_told}
 use Rattle.practice.specs.Working.{Did}
 

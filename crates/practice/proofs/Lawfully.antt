@@ -7,7 +7,7 @@ use Rattle.tape.specs.Tapes.{Contents}
 use Rattle.rules.specs.Steps.{Desk}
 use Rattle.sheet.specs.declared.fault.Fault.{Fault}
 use Rattle.sheet.specs.Handing.{Handed}
-use Rattle.answers.specs.declared.answer.Answer.{Answer}
+use Rattle.answers.specs.Answers.{Answer}
 use Rattle.whole_runs.specs.Law.{new_desk}
 use Rattle.whole_runs.proofs.Runs.{lawful_runs}
 use Rattle.practice.specs.Tasks.{steps_of}

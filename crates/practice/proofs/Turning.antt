@@ -5,7 +5,7 @@ use Rattle.ledger.specs.Opening.{Sharing}
 use Rattle.rules.specs.declared.security.ListEntry.{ListEntry}
 use Rattle.rules.specs.Steps.{Step, Outcome, Desk, Ran}
 use Rattle.sheet.specs.Told.{Told}
-use Rattle.answers.specs.declared.answer.Answer.{Answer}
+use Rattle.answers.specs.Answers.{Answer}
 use Rattle.practice.specs.Tasks.{Task, settled, asks, task, gathers, with_task, with_outcome, steps_of, answers_of}
 use Rattle.practice.specs.Working.{Did, Worked}
 

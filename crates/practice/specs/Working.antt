@@ -17,7 +17,7 @@ use Rattle.rules.specs.Steps.{Step, Outcome, Desk, Happens, leaves, Ran}
 use Rattle.sheet.specs.declared.fault.Fault.{Fault}
 use Rattle.sheet.specs.Told.{Told}
 use Rattle.sheet.specs.Handing.{Handed}
-use Rattle.answers.specs.declared.answer.Answer.{Answer}
+use Rattle.answers.specs.Answers.{Answer}
 use Rattle.whole_runs.specs.Law.{Law}
 use Rattle.practice.specs.Tasks.{Task, settled, asks, steps_of, told_as, answers_of}
 

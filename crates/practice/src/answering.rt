@@ -6,26 +6,25 @@ ghost use Rattle.practice.specs.Working.{Did};
 
 use crate::asking::{cancel_of, entry_of};
 use crate::gathered::Gathered;
-use crate::set_up::{answer_set_up, reply_answer};
-use answers::Answer;
+use crate::set_up::answer_set_up;
+use answers::{Answer, NotDone};
 use floor::Floor;
 use ledger::PairLedger;
-use sheet::Line;
+use sheet::{Fault, Line};
 use tape::Tape;
 
 // What a line is answered, and what it leaves of the floor and of the gathered securities.
 pub(crate) fn answer_line<L: PairLedger, T: Tape>(
     floor: &mut Floor<L, T>,
     gathered: &mut Gathered,
-    line: Line<'_>,
+    line: Result<Line<'_>, Fault>,
 ) -> Answer
     ensures did { Did L.PairLedger.shares (desk L.Ledger.book L.Ledger.room T.Tape.contents floor.old) (task gathered.old.entries.items (says line.entry)) result (desk L.Ledger.book L.Ledger.room T.Tape.contents floor.new) }
     ensures gathers { gathered.new.entries.items ≡ gathers gathered.old.entries.items (says line.entry) }
 {
-    match line {
-        Line::Order { order, .. } => reply_answer(floor.enter(entry_of(order))),
-        Line::Cancel { cancel, .. } => reply_answer(floor.cancel(cancel_of(cancel))),
+    match line? {
+        Line::Order { order, .. } => floor.enter(entry_of(order)).map_err(NotDone::Call),
+        Line::Cancel { cancel, .. } => floor.cancel(cancel_of(cancel)).map_err(NotDone::Call),
         Line::SetUp { act, .. } => answer_set_up(floor, gathered, act),
-        Line::Refused(fault) => Answer::Sheet(fault),
     }
 }

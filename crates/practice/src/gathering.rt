@@ -1,5 +1,8 @@
 ghost use Rattle.std.specs.Prelude.{◌≡◌, [], IfOk};
-ghost use Rattle.practice.specs.Gathering.{writable, list_entry, with_entry, gather_answer, gather_after};
+ghost use Rattle.sheet.specs.Faults.{fault};
+ghost use Rattle.std.specs.Option.{ok_or};
+ghost use Rattle.market.specs.declared.refusal.Refusal.TheVariants.{OutOfRange};
+ghost use Rattle.practice.specs.Gathering.{small, writable, list_entry, with_entry, gather_answer, gather_after};
 
 use crate::gathered::Gathered;
 use answers::Answer;
@@ -12,25 +15,31 @@ use std::alloc::{AllocError, Global};
 // No figure of a security may be larger.
 const MOST_FIGURE: u64 = 99_999_999;
 
-fn refused(refusal: Refusal) -> Answer
-    ensures { result ≡ Answer.Sheet (record { refusal = refusal; field = 0 }) }
+fn refused(refusal: Refusal) -> Fault
+    ensures { result ≡ fault refusal 0 }
 {
-    Answer::Sheet(Fault { refusal, field: 0 })
+    Fault { refusal, field: 0 }
 }
 
-fn entry_of(code: u64, class: u64, low: u64, high: u64) -> Option<ListEntry>
-    ensures { result ≡ with_entry (writable code class low high) (list_entry code class low high) }
+// A figure of a security, if it is not too large.
+fn small(figure: u64) -> Result<u32, Fault>
+    ensures { result ≡ small figure }
 {
-    if code <= MOST_FIGURE && class <= MOST_FIGURE && low <= MOST_FIGURE && high <= MOST_FIGURE {
-        Some(ListEntry {
-            code: code as u32,
-            class: class as u32,
-            low: low as u32,
-            high: high as u32,
-        })
-    } else {
-        None
+    if figure > MOST_FIGURE {
+        return Err(refused(Refusal::OutOfRange));
     }
+    Ok(figure as u32)
+}
+
+fn entry_of(code: u64, class: u64, low: u64, high: u64) -> Result<ListEntry, Fault>
+    ensures { result ≡ ok_or (with_entry (writable code class low high) (list_entry code class low high)) (fault OutOfRange 0) }
+{
+    Ok(ListEntry {
+        code: small(code)?,
+        class: small(class)?,
+        low: small(low)?,
+        high: small(high)?,
+    })
 }
 
 impl Gathered {
@@ -45,13 +54,11 @@ impl Gathered {
         ensures answer { result ≡ gather_answer self.old.entries.items code class low high }
         ensures after { self.new.entries.items ≡ gather_after self.old.entries.items code class low high }
     {
-        let Some(entry) = entry_of(code, class, low, high) else {
-            return refused(Refusal::OutOfRange);
-        };
+        let entry = entry_of(code, class, low, high)?;
         if self.entries.len() >= MOST_SECURITIES {
-            return refused(Refusal::BadList);
+            return Err(refused(Refusal::BadList).into());
         }
         self.entries.push_reserved(entry);
-        Answer::Done { lines: 0 }
+        Ok(0)
     }
 }

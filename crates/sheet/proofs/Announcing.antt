@@ -1,6 +1,6 @@
 -- The code of a line by its first bytes.
 use Rattle.std.proofs.Common.{◌≡◌, ℕ, ◌≤◌, true, false, eqb, List, [], ◌∷◌, length, get_or, drop, None, Option, sym, refl, ap, ◌∙◌, ⊎_elim, arith}
-use Rattle.std.proofs.lemmas.Bool.{eqb-true, cases_Bool, true≢false}
+use Rattle.std.proofs.lemmas.Bool.{eqb-true, cases_Bool}
 use Rattle.sheet_text.specs.Cuts.{before, onward}
 use Rattle.sheet.specs.declared.codes.Form.{Form}
 use Rattle.sheet.specs.Codes.{one_letter, two_letters, form_of, ends, with_text, announced}
@@ -49,19 +49,4 @@ two (b ∷ c ∷ cs) o some one-no e is =
     let code : before 32 (b ∷ c ∷ cs) ≡ b ∷ c ∷ [] = past.0 ∙ ap (λ (l : List ℕ). b ∷ l) (second.0 ∙ ap (λ (l : List ℕ). c ∷ l) next.0) in
     let text : onward 32 (b ∷ c ∷ cs) ≡ cs = past.1 ∙ second.1 ∙ next.1 in
     ap (λ (x : Option Form). with_text x cs) is ∙ sym (λ i. with_text (form_of (code i)) (text i)))
-    (cases_Bool (eqb b 32))
-
-pub neither : (t : List ℕ) → (1 ≤ length t → ends (drop 1 t) ≡ false) → (2 ≤ length t → ends (drop 2 t) ≡ false) → None ≡ announced t
-neither [] f g = refl
-neither (b ∷ []) f g = absurd (true≢false (f (omega arith)))
-neither (b ∷ c ∷ []) f g = absurd (true≢false (g (omega arith)))
-neither (b ∷ c ∷ d ∷ ds) f g =
-    ⊎_elim
-    (λ h. sym (blank b (c ∷ d ∷ ds) h))
-    (λ h.
-    let first = goes_on b (c ∷ d ∷ ds) h in
-    let second = goes_on c (d ∷ ds) (f (omega arith)) in
-    let third = goes_on d ds (g (omega arith)) in
-    let code : before 32 (b ∷ c ∷ d ∷ ds) ≡ b ∷ c ∷ d ∷ before 32 ds = first.0 ∙ ap (λ (l : List ℕ). b ∷ l) (second.0 ∙ ap (λ (l : List ℕ). c ∷ l) third.0) in
-    sym (ap (λ (l : List ℕ). with_text (form_of l) (onward 32 (b ∷ c ∷ d ∷ ds))) code))
     (cases_Bool (eqb b 32))

@@ -2,14 +2,15 @@
 use Rattle.std.proofs.Common.{◌≡◌, ℕ, suc, ◌+◌, ◌<◌, ◌≤◌, leb, List, [], ◌∷◌, length, Some, None, Ok, Err, Option, Result, sym, refl, ap, ◌∙◌, ⊎_elim, arith}
 use native.Mathlib.Nat.{min-eq_left}
 use Rattle.std.proofs.lemmas.Bool.{le-leb, lt-leb, leb-true, cases_Bool, cond-true, cond-false}
+use Rattle.std.specs.List.{AllByRecursion}
 use Rattle.market.specs.declared.refusal.Refusal.TheVariants.{SheetTooLong}
-use Rattle.sheet_text.specs.Lines.{lines, first_line}
-use Rattle.sheet_text.proofs.Joining.{lines_step, lines_few}
+use Rattle.sheet_text.specs.Lines.{lines, first_line, ended, with_end, Without}
+use Rattle.sheet_text.proofs.Joining.{lines_step, lines_few, lines_law}
 use Rattle.sheet.specs.declared.fault.Fault.{Fault}
 use Rattle.sheet.specs.Faults.{fault}
 use Rattle.sheet.specs.Told.{Told}
 use Rattle.sheet.specs.Parsing.{parsed}
-use Rattle.sheet.specs.Handing.{Handed, numbered, sheet_lines, next_place, first_of, rest_of, opening}
+use Rattle.sheet.specs.Handing.{Handed, numbered, sheet_lines, next_place, first_of, opening}
 
 abbrev lines_by : Option (List ℕ × List ℕ) → List (List ℕ)
 lines_by None = []
@@ -19,17 +20,25 @@ begun : (t : List ℕ) → lines t ≡ lines_by (first_line t)
 begun [] = refl
 begun (b ∷ bs) = lines_step b bs
 
-module _ (k n : ℕ) (t l r : List ℕ) (x : Told) (e : Some (l, r) ≡ first_line t) (says : x ≡ parsed l) (next : n ≡ next_place k) where
-  pub step : numbered next_place k (lines t) ≡ record { place = k; line = x } ∷ numbered next_place n (lines r)
-  step =
-      ap (numbered next_place k) (begun t ∙ ap lines_by (sym e))
-      ∙ sym (λ i. record { place = k; line = says i } ∷ numbered next_place (next i) (lines r))
+-- the places stay few: at the making, and one line on
+pub few_at_start : (t : List ℕ) → length t ≤ 65536 → 1 + length (lines t) ≤ 65537
+few_at_start t short = omega (arith, lines_few t)
 
-  pub answer : Some (record { place = k; line = x }) ≡ first_of (numbered next_place k (lines t))
-  answer = sym (ap first_of step)
+pub one_fewer : (t l r : List ℕ) → Some (l, r) ≡ first_line t → length (lines t) ≡ suc (length (lines r))
+one_fewer t l r e = ap length (begun t ∙ ap lines_by (sym e))
 
-  pub after : numbered next_place n (lines r) ≡ rest_of (numbered next_place k (lines t))
-  after = sym (ap rest_of step)
+-- what is handed out, and what is left
+pub first : (k : ℕ) (t l r : List ℕ) (x : Told) → Some (l, r) ≡ first_line t → x ≡ parsed l → Some (record { place = k; line = x }) ≡ first_of (numbered next_place k (lines t))
+first k t l r x e says =
+    ap (λ (y : Told). Some (record { place = k; line = y })) says
+    ∙ sym (ap (λ ls. first_of (numbered next_place k ls)) (begun t ∙ ap lines_by (sym e)))
+
+pub step : (k : ℕ) (t l r : List ℕ) (x : Told) → Some (l, r) ≡ first_line t → x ≡ parsed l → k + length (lines t) ≤ 65537 → numbered next_place k (lines t) ≡ record { place = k; line = x } ∷ numbered next_place (k + 1) (lines r)
+step k t l r x e says few =
+    let room : k + 1 ≤ 18446744073709551615 = omega arith in
+    ap (numbered next_place k) (begun t ∙ ap lines_by (sym e))
+    ∙ ap (λ n. record { place = k; line = parsed l } ∷ numbered next_place n (lines r)) (min-eq_left room)
+    ∙ sym (λ i. record { place = k; line = says i } ∷ numbered next_place (k + 1) (lines r))
 
 -- no line is left
 pub none_left : (k : ℕ) (t : List ℕ) → None ≡ first_line t → numbered next_place k (lines t) ≡ []
@@ -52,6 +61,13 @@ opens t short =
 
 pub too_long : (t : List ℕ) → 65536 < length t → Err (fault SheetTooLong 0) ≡ opening t
 too_long t long = sym (cond-false (leb (length t) 65536) (Ok (sheet_lines t)) _ (lt-leb (length t) 65536 long))
+
+-- the law of the lines, by its parts
+pub joined : (t : List ℕ) → ended (lines t) ≡ with_end t
+joined t = (lines_law t).joined_again
+
+pub apart : (t : List ℕ) → AllByRecursion (Without 10) (lines t)
+apart t = (lines_law t).apart
 
 -- for callers: a sheet that is not refused has at most 65,536 lines
 as_many : (f : ℕ → ℕ) (k : ℕ) (ls : List (List ℕ)) → length (numbered f k ls) ≡ length ls

@@ -3,19 +3,13 @@ use Rattle.std.proofs.Common.{◌≡◌, ℕ, suc, ◌+◌, ◌-◌, ◌<◌, �
 use Rattle.std.proofs.lemmas.List.{take_more_set}
 use Rattle.sheet_text.specs.Cuts.{before, onward}
 use Rattle.sheet_text.specs.Figures.{figure}
-use Rattle.sheet.specs.Faults.{miscounted, no_figure}
+use Rattle.sheet.specs.Faults.{no_figure}
 use Rattle.sheet.specs.Fields.{Read, by_figure, read}
 
 -- i of w figures are read, and reading on from the rest gives what the whole gives
 pub record Sofar (whole : Read) (w i : ℕ) (numbers rest : List ℕ) : Type 0 where
-  pub within : i ≤ w
   pub long : length numbers ≡ 9
   pub same : read (take i numbers) (w - i) (i + 2) rest ≡ whole
-
-pub none : (w : ℕ) (numbers t : List ℕ) → length numbers ≡ 9 → Sofar (read [] w 2 t) w 0 numbers t
-none w numbers t long =
-    let e : w - 0 ≡ w = omega arith in
-    record { within = omega arith; long = long; same = ap (λ n. read [] n 2 t) e }
 
 -- one more field
 step : (w i k : ℕ) (so rest text : List ℕ) → i < w → 1 ≤ length rest → text ≡ drop 1 rest
@@ -27,14 +21,6 @@ step w i k so (b ∷ t) text lt some e =
     ∙ ap (λ (s : List ℕ). by_figure (figure (before 32 s)) (λ v. read (so ++ v ∷ []) (w - (i + 1)) (k + 1) (onward 32 s)) (Err (no_figure k))) (sym e)
 
 module _ (whole : Read) (w i : ℕ) (numbers rest : List ℕ) (h : Sofar whole w i numbers rest) (lt : i < w) where
-  -- no field is left
-  pub missing : length rest ≤ 0 → Err (miscounted (i + 2)) ≡ whole
-  missing le = sym (ends rest le) ∙ h.same
-    where
-      ends : (t : List ℕ) → length t ≤ 0 → read (take i numbers) (w - i) (i + 2) t ≡ Err (miscounted (i + 2))
-      ends [] le = let fewer : w - i ≡ suc (w - (i + 1)) = omega arith in ap (λ n. read (take i numbers) n (i + 2) []) fewer
-      ends (b ∷ t) le = absurd (omega arith)
-
   module _ (text : List ℕ) (some : 1 ≤ length rest) (is : text ≡ drop 1 rest) (v : Option ℕ) (read_as : v ≡ figure (before 32 text)) where
     at_field : by_figure v (λ n. read (take i numbers ++ n ∷ []) (w - (i + 1)) (i + 2 + 1) (onward 32 text)) (Err (no_figure (i + 2))) ≡ whole
     at_field =
@@ -51,7 +37,6 @@ module _ (whole : Read) (w i : ℕ) (numbers rest : List ℕ) (h : Sofar whole w
       let room : i < length numbers = omega (arith, h.long) in
       let place : i + 1 + 2 ≡ i + 2 + 1 = omega arith in
       record {
-        within = omega arith;
         long = length-set numbers i n ∙ h.long;
         same = (λ j. read (take_more_set numbers i n room j) (w - (i + 1)) (place j) (past j)) ∙ at_field text some is (Some n) reads;
       }

@@ -1,3 +1,4 @@
+pub mod Refusing
 pub mod Gathering
 pub mod Announcing
 pub mod Closing

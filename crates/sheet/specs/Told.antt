@@ -1,10 +1,11 @@
 -- What a line of a sheet says.
 --   Told          a line as it is handed out: an order, a cancel, a set_up line or a fault; the first three
 --                 with the text of their fields, an order also with its contact text
---   says l        what the line l, which borrows its texts from the sheet, says
+--   line_says l   what the line l, which borrows its texts from the sheet, says
+--   says r        the same of a line that was read, or its fault
 --   order_of s d ns, cancel_of s ns, set_up_of k ns   what a line is that has the figures ns
 --   meaning f ns t c   what a line of the form f says, with the figures ns, the fields' text t and the contact c
-use Rattle.std.specs.Prelude.{ℕ, List, slice_index}
+use Rattle.std.specs.Prelude.{ℕ, List, slice_index, Ok, Err, Result}
 use Rattle.market.specs.declared.kinds.Side.{Side}
 use Rattle.market.specs.declared.kinds.Sort.{Sort}
 use Rattle.market.specs.declared.kinds.Sort.TheVariants.{Intention, FirmQuote, DealOrder}
@@ -14,7 +15,7 @@ use Rattle.sheet.specs.declared.line.Cancel.{Cancel}
 use Rattle.sheet.specs.declared.line.SetUp.{SetUp}
 use Rattle.sheet.specs.declared.line.SetUp.TheVariants.{OpenPair, OpenDay, CloseDay, Security, PayIn, DrawOut}
 use Rattle.sheet.specs.declared.line.Line.{Line}
-use Rattle.sheet.specs.declared.line.Line.TheVariants.{Order as an_order, Cancel as a_cancel, SetUp as a_set_up, Refused}
+use Rattle.sheet.specs.declared.line.Line.TheVariants.{Order as an_order, Cancel as a_cancel, SetUp as a_set_up}
 use Rattle.sheet.specs.declared.codes.Form.{Form}
 use Rattle.sheet.specs.declared.codes.Form.TheVariants.{SetUp as set_ups, Order as orders, Cancel as cancels}
 use Rattle.sheet.specs.declared.codes.SetUpForm.{SetUpForm}
@@ -26,11 +27,14 @@ pub data Told : Type 0 where
   set_up : SetUp → List ℕ → Told
   refused : Fault → Told
 
-abbrev pub says : Line → Told
-says (an_order o t c) = order o t.now c.now
-says (a_cancel x t) = cancel x t.now
-says (a_set_up s t) = set_up s t.now
-says (Refused e) = refused e
+abbrev pub line_says : Line → Told
+line_says (an_order o t c) = order o t.now c.now
+line_says (a_cancel x t) = cancel x t.now
+line_says (a_set_up s t) = set_up s t.now
+
+abbrev pub says : Result Line Fault → Told
+says (Ok l) = line_says l
+says (Err e) = refused e
 
 -- the figure at a place, from 0
 abbrev pub at : List ℕ → ℕ → ℕ

@@ -1,5 +1,5 @@
 ghost use Rattle.std.specs.Prelude.{◌≡◌};
-ghost use Rattle.sheet.specs.Told.{says, meaning, order_of, cancel_of, set_up_of};
+ghost use Rattle.sheet.specs.Told.{line_says, meaning, order_of, cancel_of, set_up_of};
 
 use crate::codes::{Form, SetUpForm};
 use crate::fields::MOST_FIGURES;
@@ -92,7 +92,7 @@ pub(crate) fn line_of<'a>(
     fields: &'a [u8],
     contact: &'a [u8],
 ) -> Line<'a>
-    ensures { says result ≡ meaning form n fields.now contact.now }
+    ensures { line_says result ≡ meaning form n fields.now contact.now }
 {
     match form {
         Form::SetUp(form) => Line::SetUp {

@@ -1,6 +1,6 @@
 ghost use Rattle.std.specs.Prelude.{◌≡◌};
 ghost use Rattle.std.specs.Option.{option_map};
-ghost use Rattle.sheet.specs.Codes.{one_letter, two_letters, ends, with_text, announced, figures_of, takes_contact};
+ghost use Rattle.sheet.specs.Codes.{one_letter, two_letters, ends, announced, figures_of, takes_contact};
 
 use market::{Side, Sort};
 
@@ -59,19 +59,7 @@ fn order_form(first: u8, second: char) -> Option<Form>
 fn ends_code(behind: &[u8]) -> bool
     ensures { result ≡ ends behind.now }
 {
-    match behind {
-        [] => true,
-        [next, ..] => *next == b' ',
-    }
-}
-
-fn with_fields(form: Option<Form>, fields: &[u8]) -> Option<(Form, &[u8])>
-    ensures { option_map (λ p. (p.0, p.1.now)) result ≡ with_text form fields.now }
-{
-    match form {
-        Some(form) => Some((form, fields)),
-        None => None,
-    }
+    matches!(behind, [] | [b' ', ..])
 }
 
 // The form that the code of a line announces, and the text behind the code.
@@ -79,9 +67,9 @@ pub(crate) fn split_code(line: &[u8]) -> Option<(Form, &[u8])>
     ensures { option_map (λ p. (p.0, p.1.now)) result ≡ announced line.now }
 {
     match line {
-        [code, fields @ ..] if ends_code(fields) => with_fields(set_up_form(*code), fields),
+        [code, fields @ ..] if ends_code(fields) => Some((set_up_form(*code)?, fields)),
         [first, second, fields @ ..] if ends_code(fields) => {
-            with_fields(order_form(*first, char::from(*second)), fields)
+            Some((order_form(*first, char::from(*second))?, fields))
         }
         _ => None,
     }
@@ -104,9 +92,6 @@ impl Form {
     pub(crate) fn takes_contact(self) -> bool
         ensures { result ≡ takes_contact self }
     {
-        match self {
-            Form::Order(Sort::Intention, _) | Form::Order(Sort::FirmQuote, _) => true,
-            _ => false,
-        }
+        matches!(self, Form::Order(Sort::Intention | Sort::FirmQuote, _))
     }
 }

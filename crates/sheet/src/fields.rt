@@ -6,7 +6,7 @@ use crate::fault::Fault;
 use market::Refusal;
 use sheet_text::{cut, figure};
 
-const BLANK: u8 = 32;
+const BLANK: u8 = b' ';
 
 // The code of a line is its field 1.
 pub(crate) const FIRST_FIELD: usize = 2;
@@ -26,26 +26,22 @@ pub(crate) fn read_figures(fields: &[u8], wanted: usize) -> Result<Figures<'_>, 
     requires { wanted ≤ 9 }
     ensures { gathered wanted result ≡ read [] wanted 2 fields.now }
 {
-    let mut numbers = [0u64; MOST_FIGURES];
+    let mut numbers = [0; MOST_FIGURES];
     let mut rest = fields;
-    let mut i = 0;
-    while i < wanted {
+    for i in 0..wanted {
+        let field = i + FIRST_FIELD;
         let [_, text @ ..] = rest else {
             return Err(Fault {
                 refusal: Refusal::FieldCount,
-                field: i + FIRST_FIELD,
+                field,
             });
         };
         let (word, behind) = cut(text, BLANK);
-        let Some(n) = figure(word) else {
-            return Err(Fault {
-                refusal: Refusal::NotDigits,
-                field: i + FIRST_FIELD,
-            });
-        };
-        numbers[i] = n;
+        numbers[i] = figure(word).ok_or(Fault {
+            refusal: Refusal::NotDigits,
+            field,
+        })?;
         rest = behind;
-        i += 1;
     }
     Ok(Figures { numbers, rest })
 }

@@ -59,7 +59,7 @@ pub enum SetUp {
     },
 }
 
-// A line of a sheet. `fields` is the text behind its code, and `contact` what follows an order's
+// A line of a sheet that is not refused. `fields` is the text behind its code, and `contact` what follows an order's
 // last figure and a blank; both are borrowed from the sheet.
 #[derive(Clone, Copy)]
 pub enum Line<'a> {
@@ -76,12 +76,11 @@ pub enum Line<'a> {
         act: SetUp,
         fields: &'a [u8],
     },
-    Refused(Fault),
 }
 
-// A line with its place in the sheet, from 1.
+// A line with its place in the sheet, from 1, or why it is refused.
 #[derive(Clone, Copy)]
 pub struct Numbered<'a> {
     pub place: usize,
-    pub line: Line<'a>,
+    pub line: Result<Line<'a>, Fault>,
 }

@@ -12,45 +12,37 @@ use crate::line::Line;
 use market::Refusal;
 
 // The line, once its figures are read: only a contact may follow them.
-fn close_line<'a>(form: Form, fields: &'a [u8], found: Figures<'a>) -> Line<'a>
+fn close_line<'a>(form: Form, fields: &'a [u8], found: Figures<'a>) -> Result<Line<'a>, Fault>
     ensures { says result ≡ closed form fields.now (take (figures_of form) found.entry.numbers) found.entry.rest.now }
 {
     let Figures { numbers, rest } = found;
     match rest {
-        [] => line_of(form, numbers, fields, rest),
-        [_, contact @ ..] => {
-            if form.takes_contact() {
-                line_of(form, numbers, fields, contact)
-            } else {
-                Line::Refused(Fault {
-                    refusal: Refusal::FieldCount,
-                    field: form.figures() + FIRST_FIELD,
-                })
-            }
-        }
+        [] => Ok(line_of(form, numbers, fields, rest)),
+        [_, contact @ ..] if form.takes_contact() => Ok(line_of(form, numbers, fields, contact)),
+        _ => Err(Fault {
+            refusal: Refusal::FieldCount,
+            field: form.figures() + FIRST_FIELD,
+        }),
     }
 }
 
 // What one line of a sheet says, or why it is refused.
-pub fn read_line(line: &[u8]) -> Line<'_>
+#[tactic(auto, using(crate::proofs::Closing::nothing, crate::proofs::Writing::told_written, crate::proofs::Rereading::told_only))]
+pub fn read_line(line: &[u8]) -> Result<Line<'_>, Fault>
     ensures answer { says result ≡ parsed line.now }
     ensures written { Written line.now (says result) }
     ensures only { Only line.now (says result) }
 {
     if line.is_empty() {
-        return Line::Refused(Fault {
+        return Err(Fault {
             refusal: Refusal::EmptyLine,
             field: 0,
         });
     }
-    let Some((form, fields)) = split_code(line) else {
-        return Line::Refused(Fault {
-            refusal: Refusal::UnknownCode,
-            field: 0,
-        });
-    };
-    match read_figures(fields, form.figures()) {
-        Ok(found) => close_line(form, fields, found),
-        Err(fault) => Line::Refused(fault),
-    }
+    let (form, fields) = split_code(line).ok_or(Fault {
+        refusal: Refusal::UnknownCode,
+        field: 0,
+    })?;
+    let found = read_figures(fields, form.figures())?;
+    close_line(form, fields, found)
 }

@@ -14,36 +14,34 @@ use sheet_text::first_line;
 const MOST_BYTES: usize = 65_536;
 
 impl<'a> Reader<'a> {
+    #[tactic(auto, using(crate::proofs::Counting::opens, crate::proofs::Counting::too_long, crate::proofs::Counting::few_at_start, crate::proofs::Counting::joined, crate::proofs::Counting::apart), unfolding(crate::specs::Handing::left))]
     pub fn new(sheet: &'a [u8]) -> Result<Reader<'a>, Fault>
         ensures answer { opened result ≡ opening sheet.now }
         ensures lines { LinesOf sheet.now }
     {
-        if sheet.len() <= MOST_BYTES {
-            Ok(Reader {
-                rest: sheet,
-                place: 1,
-            })
-        } else {
-            Err(Fault {
+        if sheet.len() > MOST_BYTES {
+            return Err(Fault {
                 refusal: Refusal::SheetTooLong,
                 field: 0,
-            })
+            });
         }
+        Ok(Reader {
+            rest: sheet,
+            place: 1,
+        })
     }
 
     // Hands out the next line with its place, or `None` where all are handed out.
+    #[tactic(auto, using(crate::proofs::Counting::step, crate::proofs::Counting::none_left, crate::proofs::Counting::one_fewer), unfolding(crate::specs::Handing::left))]
     pub fn next_line(&mut self) -> Option<Numbered<'a>>
         ensures answer { option_map handed result ≡ first_of (left self.old) }
         ensures after { left self.new ≡ rest_of (left self.old) }
         ensures step { left self.old ≡ then result (left self.new) }
     {
-        let Some((line, rest)) = first_line(self.rest) else {
-            return None;
-        };
+        let (line, rest) = first_line(self.rest)?;
         let place = self.place;
         self.rest = rest;
-        // The count never reaches its end: no sheet has so many lines.
-        self.place = place.saturating_add(1);
+        self.place += 1;
         Some(Numbered {
             place,
             line: read_line(line),

@@ -8,7 +8,7 @@ use Rattle.line_ledger.specs.Opening.{no_pairs, room_of}
 use Rattle.line_ledger.specs.Sharing.{all_share}
 use Rattle.sheet.specs.declared.fault.Fault.{Fault}
 use Rattle.sheet.specs.Handing.{opening}
-use Rattle.answers.specs.declared.answer.Answer.{Answer}
+use Rattle.answers.specs.Answers.{Answer}
 use Rattle.answers.specs.Rows.{printed}
 use Rattle.whole_runs.specs.Law.{new_desk}
 use Rattle.practice.specs.Working.{Practised}

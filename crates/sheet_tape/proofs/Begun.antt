@@ -10,7 +10,7 @@ use Rattle.tape.specs.Tapes.{Contents}
 use Rattle.rules.specs.Steps.{Desk}
 use Rattle.sheet.specs.declared.fault.Fault.{Fault}
 use Rattle.sheet.specs.Handing.{opening}
-use Rattle.answers.specs.declared.answer.Answer.{Answer}
+use Rattle.answers.specs.Answers.{Answer}
 use Rattle.whole_runs.specs.Law.{new_desk}
 use Rattle.practice.specs.Working.{Practised}
 use Rattle.sheet_tape.specs.Taping.{begun, share, Taped}

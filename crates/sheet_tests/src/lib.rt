@@ -14,7 +14,7 @@ pub fn count_lines(sheet: &[u8]) -> Result<usize, Fault>
     ensures { result ≡ line_count sheet.now }
 {
     let mut reader = Reader::new(sheet)?;
-    let mut count: usize = 0;
+    let mut count = 0;
     while let Some(_) = reader.next_line() {
         count += 1;
     }

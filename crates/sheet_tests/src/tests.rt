@@ -4,10 +4,8 @@ use std::test::Fail;
 
 // The refusal's number and field of a line, or nothing.
 fn fault(line: &[u8]) -> Option<(u8, usize)> {
-    match read_line(line) {
-        Line::Refused(fault) => Some((fault.refusal.number(), fault.field)),
-        _ => None,
-    }
+    let fault = read_line(line).err()?;
+    Some((fault.refusal.number(), fault.field))
 }
 
 #[test]
@@ -57,11 +55,12 @@ fn bad_fields(rt: HostRuntime) {
 
 #[test]
 fn an_order(rt: HostRuntime) -> Result<(), Fail> {
+    let line = read_line(b"OS 1 2 3 4 5 6 007 Li 5").ok().ok_or("refused")?;
     let Line::Order {
         order,
         fields,
         contact,
-    } = read_line(b"OS 1 2 3 4 5 6 007 Li 5")
+    } = line
     else {
         return Err(Fail::new("no order"));
     };
@@ -76,7 +75,7 @@ fn an_order(rt: HostRuntime) -> Result<(), Fail> {
 
 #[test]
 fn a_deal_order(rt: HostRuntime) -> Result<(), Fail> {
-    let Line::Order { order, .. } = read_line(b"1B 11 12 13 14 15 16 17 18 19") else {
+    let Ok(Line::Order { order, .. }) = read_line(b"1B 11 12 13 14 15 16 17 18 19") else {
         return Err(Fail::new("no order"));
     };
     assert_eq!(rt; (order.sort.number(), order.side.number()), (3, 1));
@@ -92,7 +91,7 @@ fn a_short_sheet(rt: HostRuntime) -> Result<(), Fail> {
     let Line::SetUp {
         act: SetUp::OpenDay { date },
         ..
-    } = first.line
+    } = first.line.ok().ok_or("refused")?
     else {
         return Err(Fail::new("no day"));
     };

@@ -1,9 +1,9 @@
 -- The lines of a sheet: one step, and the law of the lines.
-use Rattle.std.proofs.Common.{◌≡◌, ℕ, ◌+◌, ◌≤◌, true, false, cond, eqb, List, [], ◌∷◌, length, drop, Some, sym, refl, ap, ◌∙◌, ⊎_elim, arith}
+use Rattle.std.proofs.Common.{◌≡◌, ℕ, ◌+◌, ◌≤◌, true, false, cond, eqb, List, [], ◌∷◌, length, drop, sym, refl, ap, ◌∙◌, ⊎_elim, arith}
 use Rattle.std.specs.List.{AllByRecursion}
-use Rattle.std.proofs.lemmas.Bool.{eqb-true, eqb-false, cases_Bool, cond-true, cond-false, cond_both, true≢false}
+use Rattle.std.proofs.lemmas.Bool.{eqb-true, eqb-false, cases_Bool, cond-true, cond-false, cond_both}
 use Rattle.sheet_text.specs.Cuts.{before, onward}
-use Rattle.sheet_text.specs.Lines.{onto_first, lines, first_line, ended, with_end, Without, LinesOf}
+use Rattle.sheet_text.specs.Lines.{onto_first, lines, ended, with_end, Without, LinesOf}
 
 -- the lines of a sheet are its first line, and the lines of what stands behind that
 pub lines_step : (b : ℕ) (bs : List ℕ) → lines (b ∷ bs) ≡ before 10 (b ∷ bs) ∷ lines (drop 1 (onward 10 (b ∷ bs)))
@@ -60,8 +60,3 @@ stand_apart (b ∷ bs) =
 
 pub lines_law : (t : List ℕ) → LinesOf t
 lines_law t = record { joined_again = joins t; apart = stand_apart t }
-
--- what `first_line` answers of a sheet that is not empty
-pub told : (t l r : List ℕ) → l ≡ before 10 t → r ≡ drop 1 (onward 10 t) → false ≡ eqb (length t) 0 → Some (l, r) ≡ first_line t
-told [] l r e f some = absurd (true≢false (sym some))
-told (b ∷ bs) l r e f some = λ i. Some (e i, f i)

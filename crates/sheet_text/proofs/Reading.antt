@@ -1,20 +1,17 @@
 -- What one turn of `figure` keeps.
-use Rattle.std.proofs.Common.{◌≡◌, ℕ, ◌+◌, ◌-◌, ◌*◌, ◌^◌, ◌<◌, ◌≤◌, true, false, ◌&&◌, eqb, leb, List, [], ◌∷◌, map, length, get_or, take, drop, Some, None, sym, refl, ap, ◌∙◌, pow-suc, add-one, arith}
+use Rattle.std.proofs.Common.{◌≡◌, ℕ, ◌+◌, ◌-◌, ◌*◌, ◌^◌, ◌<◌, ◌≤◌, true, ◌&&◌, leb, List, map, length, get_or, take, drop, sym, ap, ◌∙◌, pow-suc, add-one, arith}
 use native.Mathlib.Nat.{pow-le-pow_right}
 use Rattle.std.specs.Int.Digits.{number_from_digits}
 use Rattle.std.proofs.lemmas.Int.Digits.{number_push}
-use Rattle.std.proofs.lemmas.List.{take_all, drop_all, drop_more, map_more}
-use Rattle.std.proofs.lemmas.Bool.{le-leb, lt-leb, and_from, and_left, and_right, cond-true, cond-false, false≢true}
-use Rattle.sheet_text.specs.Figures.{digit, is_digit, all_digits, decimal, figure}
+use Rattle.std.proofs.lemmas.List.{drop_more, map_more}
+use Rattle.std.proofs.lemmas.Bool.{leb-true, and_parts}
+use Rattle.sheet_text.specs.Figures.{digit, is_digit, all_digits, decimal}
 
 -- the first i bytes of t are digits, and write n
 pub record Sofar (t : List ℕ) (i n : ℕ) : Type 0 where
   pub value : n ≡ decimal (take i t)
   pub bound : n < 10 ^ i
   pub rest : all_digits t ≡ all_digits (drop i t)
-
-pub none : (t : List ℕ) → Sofar t 0 0
-none t = record { value = refl; bound = omega arith; rest = refl }
 
 module _ (t : List ℕ) (i n : ℕ) (h : Sofar t i n) where
   -- ten times the number so far fits
@@ -23,40 +20,14 @@ module _ (t : List ℕ) (i n : ℕ) (h : Sofar t i n) where
       let m : 10 ^ i ≤ 10 ^ 17 = pow-le-pow_right {n = 10} (omega arith) {i = i} {j = 17} (omega arith) in
       omega (arith, h.bound)
 
-  pub one_more : i < length t → 48 ≤ get_or t i 0 → get_or t i 0 ≤ 57 → Sofar t (i + 1) (n * 10 + (get_or t i 0 - 48))
-  one_more lt low high =
+  pub one_more : i < length t → is_digit (get_or t i 0) ≡ true → Sofar t (i + 1) (n * 10 + (get_or t i 0 - 48))
+  one_more lt is =
       let x : ℕ = get_or t i 0 in
+      let few : x ≤ 57 = leb-true x 57 (and_parts (leb 48 x) (leb x 57) is).1 in
       let more : all_digits (drop i t) ≡ (is_digit x && all_digits (drop (i + 1) t)) = ap all_digits (drop_more t i 0 lt) in
-      let is : is_digit x ≡ true = and_from _ _ (le-leb 48 x low) (le-leb x 57 high) in
       let power : 10 ^ (i + 1) ≡ 10 ^ i * 10 = ap (λ k. 10 ^ k) (add-one i) ∙ pow-suc 10 i in
       record {
         value = ap (λ m. m * 10 + (x - 48)) h.value ∙ sym (number_push 10 (map digit (take i t)) (digit x)) ∙ ap (number_from_digits 10) (sym (map_more digit t i 0 lt));
         bound = omega (arith, h.bound);
         rest = h.rest ∙ more ∙ ap (λ b. b && all_digits (drop (i + 1) t)) is;
       }
-
-  -- a byte that is no digit
-  pub stops : i < length t → is_digit (get_or t i 0) ≡ false → all_digits t ≡ false
-  stops lt no_digit =
-      let x : ℕ = get_or t i 0 in
-      let more : all_digits (drop i t) ≡ (is_digit x && all_digits (drop (i + 1) t)) = ap all_digits (drop_more t i 0 lt) in
-      h.rest ∙ more ∙ and_left _ _ no_digit
-
-  pub done : length t ≤ i → 1 ≤ length t → length t ≤ 18 → Some n ≡ figure t
-  done le some few =
-      let all : all_digits t ≡ true = h.rest ∙ ap all_digits (drop_all i t le) in
-      ap Some (h.value ∙ ap decimal (take_all i t le))
-      ∙ sym (cond-true _ (Some (decimal t)) None (and_from _ _ (le-leb 1 (length t) some) (and_from _ _ (le-leb (length t) 18 few) all)))
-
-pub refused : (t : List ℕ) → all_digits t ≡ false → None ≡ figure t
-refused t e = sym (cond-false _ (Some (decimal t)) None (and_right (leb 1 (length t)) _ (and_right (leb (length t) 18) _ e)))
-
-pub too_low : (x : ℕ) → x < 48 → is_digit x ≡ false
-too_low x lt = and_left _ _ (lt-leb 48 x lt)
-
-pub too_high : (x : ℕ) → 57 < x → is_digit x ≡ false
-too_high x lt = and_right _ _ (lt-leb x 57 lt)
-
-pub some_bytes : (t : List ℕ) → false ≡ eqb (length t) 0 → 1 ≤ length t
-some_bytes [] e = absurd (false≢true e)
-some_bytes (x ∷ xs) e = omega arith

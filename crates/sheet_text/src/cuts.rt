@@ -6,9 +6,6 @@ pub fn cut(text: &[u8], byte: u8) -> (&[u8], &[u8])
     ensures front { result.0.now ≡ before byte text.now }
     ensures back { result.1.now ≡ onward byte text.now }
 {
-    let mut i = 0;
-    while i < text.len() && text[i] != byte {
-        i += 1;
-    }
-    text.split_at(i)
+    let end = text.iter().position(|b| *b == byte).unwrap_or(text.len());
+    text.split_at(end)
 }

@@ -5,7 +5,7 @@ ghost use Rattle.sheet_text.specs.Lines.{first_line};
 use crate::cuts::cut;
 
 // The byte that ends a line.
-const LINE_END: u8 = 10;
+const LINE_END: u8 = b'\n';
 
 // The first line of a sheet, and what stands behind it.
 pub fn first_line(sheet: &[u8]) -> Option<(&[u8], &[u8])>

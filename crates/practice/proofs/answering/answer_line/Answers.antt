@@ -1,36 +1,27 @@
-use Rattle.std.proofs.Common.{sym, ap, ◌∙◌}
+use Rattle.std.proofs.Common.{◌≡◌, sym, ap, ◌∙◌, rules}
 use Rattle.rules.specs.declared.request.Entry.{Entry}
 use Rattle.rules.specs.declared.request.CancelOrder.{CancelOrder}
 use Rattle.rules.specs.Plain.{enters, cancels}
 use Rattle.rules.specs.Steps.{call}
-use Rattle.sheet.specs.Told.{says}
-use Rattle.floor.specs.View.{view}
-use Rattle.practice.specs.Tasks.{asks, task, gathers}
+use Rattle.sheet.specs.Told.{says, line_says}
+use Rattle.practice.specs.Tasks.{asks, task, reply_told}
 use Rattle.practice.proofs.Doing.{did_call}
 use Rattle.practice.proofs.answering.answer_line.Goals as goal
 
-pub returns-in-Order : goal.returns-in-Order
-returns-in-Order g c =
+pub returns-in-Order-clause-did : goal.returns-in-Order-clause-did
+returns-in-Order-clause-did g c =
     let l = c.args.gathered.now.entries.items in
-    let f = c.args.floor.now in
     let e = c.enter.ensures in
-    record {
-      did =
-          did_call g.L.PairLedger.shares (view g.L.Ledger.book g.T.Tape.contents f) (view g.L.Ledger.book g.T.Tape.contents c.enter.new.self) (g.L.Ledger.room f.ledger) (g.L.Ledger.room c.enter.new.self.ledger) (enters c.entry_of.result) (task l (says c.args.line)) c.enter.result c.reply_answer.result
-          (ap (λ x. task l (says x)) c.in-Order.is ∙ ap (λ (x : Entry). asks (call (enters x))) (sym c.entry_of.ensures))
-          e.answer e.after e.room c.reply_answer.ensures;
-      gathers = sym (ap (λ x. gathers l (says x)) c.in-Order.is);
-    }
+    let told : c.map_err.result ≡ reply_told c.enter.result = search rules in
+    did_call _ _ _ _ _ _ _ _ _
+    (ap (λ x. task l (says x)) c.in_ok-order.was ∙ ap (λ x. task l (line_says x)) c.in-Order.is ∙ ap (λ (x : Entry). asks (call (enters x))) (sym c.entry_of.ensures))
+    e.answer e.after e.room told
 
-pub returns-in-Cancel : goal.returns-in-Cancel
-returns-in-Cancel g c =
+pub returns-in-Cancel-clause-did : goal.returns-in-Cancel-clause-did
+returns-in-Cancel-clause-did g c =
     let l = c.args.gathered.now.entries.items in
-    let f = c.args.floor.now in
     let e = c.cancel.ensures in
-    record {
-      did =
-          did_call g.L.PairLedger.shares (view g.L.Ledger.book g.T.Tape.contents f) (view g.L.Ledger.book g.T.Tape.contents c.cancel.new.self) (g.L.Ledger.room f.ledger) (g.L.Ledger.room c.cancel.new.self.ledger) (cancels c.cancel_of.result) (task l (says c.args.line)) c.cancel.result c.reply_answer-in-Cancel.result
-          (ap (λ x. task l (says x)) c.in-Cancel.is ∙ ap (λ (x : CancelOrder). asks (call (cancels x))) (sym c.cancel_of.ensures))
-          e.answer e.after e.room c.reply_answer-in-Cancel.ensures;
-      gathers = sym (ap (λ x. gathers l (says x)) c.in-Cancel.is);
-    }
+    let told : c.map_err-in-Cancel.result ≡ reply_told c.cancel.result = search rules in
+    did_call _ _ _ _ _ _ _ _ _
+    (ap (λ x. task l (says x)) c.in_ok-order.was ∙ ap (λ x. task l (line_says x)) c.in-Cancel.is ∙ ap (λ (x : CancelOrder). asks (call (cancels x))) (sym c.cancel_of.ensures))
+    e.answer e.after e.room told

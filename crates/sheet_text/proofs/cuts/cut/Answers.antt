@@ -1,16 +1,16 @@
-use Rattle.std.proofs.Common.{◌≡◌, take, drop, ◌∙◌}
-use Rattle.sheet_text.specs.Cuts.{before, onward}
-use Rattle.sheet_text.proofs.Cutting.{one_more, to_end, to_byte}
+use Rattle.std.proofs.lemmas.Iterator.{YieldsList-from_slice}
+use Rattle.std.proofs.lemmas.Iterator.Search.{position_from_yields_List}
+use Rattle.std.proofs.Common.{rules, tests, ◌≡◌, ◌==◌, length, ◌∙◌, ap, take, drop}
+use Rattle.std.specs.List.{position}
+use Rattle.std.specs.Option.{unwrap_or}
+use Rattle.sheet_text.proofs.Cutting.{front, back, place}
 use Rattle.sheet_text.proofs.cuts.cut.Goals as goal
-use Rattle.sheet_text.proofs.cuts.cut.Goals.{then-loop-i-test+else-text-i, else-loop-i-test}
-
-pub loop-i-preserved : goal.loop-i-preserved
-loop-i-preserved c = one_more _ _ _ c.loop-i.invariant c.loop-i-test.true c.if-text-i.true
 
 pub returns : goal.returns
 returns c =
-    let h : (take c.loop-i.i c.args.text.now ≡ before c.args.byte c.args.text.now) × (drop c.loop-i.i c.args.text.now ≡ onward c.args.byte c.args.text.now) = elim c.loop-i-test.branch [
-      | then-loop-i-test+else-text-i w ↦ to_byte _ _ _ c.loop-i.invariant w.loop-i-test.true w.if-text-i.false
-      | else-loop-i-test w ↦ to_end _ _ _ c.loop-i.invariant w.loop-i-test.false
-    ] in
-    record { front = c.split_at.ensures.front ∙ h.0; back = c.split_at.ensures.back ∙ h.1 }
+    let found : c.position.result ≡ position (λ x. x == c.args.byte) c.args.text.now = position_from_yields_List _ _ _ c.position.result c.position.ensures.ran (YieldsList-from_slice c.args.text.now cc) (λ x b q k. search (rules, tests)) in
+    let here = c.unwrap_or-end.ensures ∙ ap (λ p. unwrap_or p (length c.args.text.now)) found ∙ place c.args.byte c.args.text.now in
+    record {
+      front = c.split_at.ensures.front ∙ ap (λ n. take n c.args.text.now) here ∙ front c.args.byte c.args.text.now;
+      back = c.split_at.ensures.back ∙ ap (λ n. drop n c.args.text.now) here ∙ back c.args.byte c.args.text.now;
+    }
