@@ -1,6 +1,6 @@
 ghost use Rattle.std.specs.Prelude.{◌≡◌};
 ghost use Rattle.sheet.specs.Told.{says};
-ghost use Rattle.floor.specs.View.{desk};
+ghost use Rattle.floor.specs.View.{whole};
 ghost use Rattle.practice.specs.Tasks.{task, gathers};
 ghost use Rattle.practice.specs.Working.{Did};
 
@@ -19,7 +19,7 @@ pub(crate) fn answer_line<L: PairLedger, T: Tape>(
     gathered: &mut Gathered,
     line: Result<Line<'_>, Fault>,
 ) -> Answer
-    ensures did { Did L.PairLedger.shares (desk L.Ledger.book L.Ledger.room T.Tape.contents floor.old) (task gathered.old.entries.items (says line.entry)) result (desk L.Ledger.book L.Ledger.room T.Tape.contents floor.new) }
+    ensures did { Did L.PairLedger.shares (whole floor.old) (task gathered.old.entries.items (says line.entry)) result (whole floor.new) }
     ensures gathers { gathered.new.entries.items ≡ gathers gathered.old.entries.items (says line.entry) }
 {
     match line? {

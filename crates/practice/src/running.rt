@@ -1,6 +1,6 @@
 ghost use Rattle.std.specs.Prelude.{[], IfOk};
 ghost use Rattle.sheet.specs.Handing.{left, opening};
-ghost use Rattle.floor.specs.View.{desk};
+ghost use Rattle.floor.specs.View.{whole};
 ghost use Rattle.whole_runs.specs.Law.{new_desk};
 ghost use Rattle.practice.specs.Working.{told, Worked, Answered, Practised};
 
@@ -26,7 +26,7 @@ fn answer_all<L: PairLedger, T: Tape>(
     floor: &mut Floor<L, T>,
     mut reader: Reader<'_>,
 ) -> Result<Vec<Answer>, AllocError>
-    ensures { IfOk result (λ v. Worked L.PairLedger.shares (desk L.Ledger.book L.Ledger.room T.Tape.contents floor.old) [] (told (left reader.entry)) v.items (desk L.Ledger.book L.Ledger.room T.Tape.contents floor.new)) }
+    ensures { IfOk result (λ v. Worked L.PairLedger.shares (whole floor.old) [] (told (left reader.entry)) v.items (whole floor.new)) }
 {
     let mut gathered = Gathered::new(heap)?;
     let mut answers = Vec::new(heap);
@@ -43,7 +43,7 @@ fn answer_sheet<L: PairLedger + Drop, T: Tape + Drop>(
     tape: T,
     sheet: &[u8],
 ) -> Result<Practice<L, T>, AllocError>
-    ensures { IfOk result (λ p. Answered L.PairLedger.shares (new_desk (L.Ledger.book ledger) (L.Ledger.room ledger) (T.Tape.contents tape)) (opening sheet.now) p.answers (desk L.Ledger.book L.Ledger.room T.Tape.contents p.floor)) }
+    ensures { IfOk result (λ p. Answered L.PairLedger.shares (new_desk (L.Ledger.book ledger) (L.Ledger.room ledger) (T.Tape.contents tape)) (opening sheet.now) p.answers (whole p.floor)) }
 {
     let mut floor = Floor::new(heap, ledger, tape)?;
     let answers = match Reader::new(sheet) {
@@ -60,7 +60,7 @@ pub fn run_sheet<L: PairLedger + Drop, T: Tape + Drop>(
     tape: T,
     sheet: &[u8],
 ) -> Result<Practice<L, T>, AllocError>
-    ensures { IfOk result (λ p. Practised L.PairLedger.shares (new_desk (L.Ledger.book ledger) (L.Ledger.room ledger) (T.Tape.contents tape)) (opening sheet.now) p.answers (desk L.Ledger.book L.Ledger.room T.Tape.contents p.floor)) }
+    ensures { IfOk result (λ p. Practised L.PairLedger.shares (new_desk (L.Ledger.book ledger) (L.Ledger.room ledger) (T.Tape.contents tape)) (opening sheet.now) p.answers (whole p.floor)) }
 {
     answer_sheet(heap, ledger, tape, sheet)
 }

@@ -1,5 +1,5 @@
 ghost use Rattle.std.specs.Prelude.{◌≡◌};
-ghost use Rattle.floor.specs.View.{desk};
+ghost use Rattle.floor.specs.View.{whole};
 ghost use Rattle.practice.specs.Tasks.{set_up_task, set_up_gathers};
 ghost use Rattle.practice.specs.Working.{Did};
 
@@ -17,7 +17,7 @@ pub(crate) fn answer_set_up<L: PairLedger, T: Tape>(
     gathered: &mut Gathered,
     act: SetUp,
 ) -> Answer
-    ensures did { Did L.PairLedger.shares (desk L.Ledger.book L.Ledger.room T.Tape.contents floor.old) (set_up_task gathered.old.entries.items act) result (desk L.Ledger.book L.Ledger.room T.Tape.contents floor.new) }
+    ensures did { Did L.PairLedger.shares (whole floor.old) (set_up_task gathered.old.entries.items act) result (whole floor.new) }
     ensures gathers { gathered.new.entries.items ≡ set_up_gathers gathered.old.entries.items act }
 {
     match act {
