@@ -25,7 +25,7 @@ pub fn check_opening<L: Ledger>(
         return Err(Refused::Floor(Refusal::DayOpen));
     }
     let begins = opening_date(date, day.last_date).ok_or(Refusal::BadDate)?;
-    check_list(list).map_err(Refused::List)?;
+    check_list(list)?;
     if ledger.any_money_held() || ledger.any_security_held() {
         return Err(Refused::Floor(Refusal::SomethingHeld));
     }

@@ -1,9 +1,10 @@
 ghost use Rattle.std.specs.Prelude.{◌≡◌, is_ok, IfErr};
+ghost use Rattle.rules.specs.declared.event.Refused.TheVariants.{List};
 ghost use Rattle.rules.specs.Listing.{has_code, sound_entry, good_list, Faulty, security};
 
 use crate::classing::{class_or_bond, fits_class};
 use market::{Figure, Price};
-use rules::{ListEntry, Security};
+use rules::{ListEntry, Refused, Security};
 
 // A list has at most that many securities.
 pub const MOST_SECURITIES: usize = 64;
@@ -26,17 +27,29 @@ fn is_sound(before: &[ListEntry], e: &ListEntry) -> bool
         && e.low <= e.high
 }
 
-// Refuses a list with its first faulty entry, counted from 0, or with 64 where it is too long.
-pub fn check_list(list: &[ListEntry]) -> Result<(), usize>
+// The place of a list's first faulty entry, counted from 0, or 64 where the list is too long.
+#[derive(Clone, Copy)]
+pub struct FaultyEntry(pub usize);
+
+impl From<FaultyEntry> for Refused {
+    ghost from_gives = { λ e r. r ≡ List e.0 };
+
+    fn from(e: FaultyEntry) -> Refused {
+        Refused::List(e.0)
+    }
+}
+
+// Refuses a list with its first faulty entry.
+pub fn check_list(list: &[ListEntry]) -> Result<(), FaultyEntry>
     ensures value { is_ok result ≡ good_list list.now }
-    ensures fault { IfErr result (λ k. Faulty list.now k) }
+    ensures fault { IfErr result (λ e. Faulty list.now e.0) }
 {
     if list.len() > MOST_SECURITIES {
-        return Err(MOST_SECURITIES);
+        return Err(FaultyEntry(MOST_SECURITIES));
     }
     for (k, e) in list.iter().enumerate() {
         if !is_sound(&list[0..k], e) {
-            return Err(k);
+            return Err(FaultyEntry(k));
         }
     }
     Ok(())
