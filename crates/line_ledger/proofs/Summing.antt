@@ -8,7 +8,7 @@ use Rattle.ledger.proofs.Adding.{sum_to_none}
 use Rattle.ledger.proofs.Puts.{in_accounts, of_here, of_zero, total_put}
 use Rattle.line_ledger.specs.declared.record.PairRecord.{PairRecord}
 use Rattle.line_ledger.specs.Rows.{blank, figures, row, look, Apart, Ranged, Kept}
-use Rattle.line_ledger.specs.Reading.{fewer_apart, look_fresh, look_more}
+use Rattle.line_ledger.specs.Reading.{rest_apart, look_fresh, look_more}
 
 -- what a record adds to an item's total
 abbrev pub weight : ℕ → PairRecord → ℕ
@@ -18,7 +18,7 @@ total_sum : (rows : List PairRecord) (i : ℕ) → Apart rows → Ranged rows �
 unfolding total look
 total_sum [] i A R = sum_to_none accounts_end
 total_sum (p ∷ rows) i A R =
-    let ih = total_sum rows i (fewer_apart p rows A) (λ k l. R (suc k) (omega arith)) in
+    let ih = total_sum rows i (rest_apart p rows A) (λ k l. R (suc k) (omega arith)) in
     let s = sum_by-cons (weight i) p rows in
     let m : total (look (p ∷ rows)) i ≡ total (put (look rows) p.account p.item (figures p)) i = ap (λ (x : Book). total x i) (look_more p rows) in
     let w : worth (look rows p.account p.item) ≡ 0 =

@@ -1,6 +1,7 @@
 -- The book of a list of records: what a read finds, and what a write leaves.
-use Rattle.std.specs.Prelude.{◌≡◌, ℕ, zero, suc, ◌<◌, Bool, true, false, cond, List, [], ◌∷◌, length, ◌==◌, ◌≢◌, slice_set, refl}
+use Rattle.std.specs.Prelude.{◌≡◌, ℕ, zero, suc, ◌<◌, ◌≤◌, take, slice_index_or, Bool, true, false, cond, List, [], ◌∷◌, length, ◌==◌, ◌≢◌, slice_set, refl}
 use Rattle.std.proofs.Common.{sym, ap, subst, ◌∙◌, ⊎_elim, arith, length-set, get_or-set_same, get_or-set_other}
+use Rattle.std.proofs.lemmas.List.{length-take, get_or-take, set_past}
 use Rattle.std.proofs.Math.Path.{fun_ext}
 use Rattle.std.proofs.lemmas.Bool.{cases_eq, cases_Bool, eq-eqb, ne_eqb, eqb-true, and_from, and_parts, and_left, and_right, true≢false, false≢true, cond-true, cond-false}
 use Rattle.std.proofs.lemmas.Bool.Decides.{nat_tests}
@@ -24,8 +25,22 @@ stands_is p a i h =
     let q = and_parts (p.account == a) (p.item == i) h in
     (eqb-true p.account a q.0, eqb-true p.item i q.1)
 
-pub fewer_apart : (p : PairRecord) (rows : List PairRecord) → Apart (p ∷ rows) → Apart rows
-fewer_apart p rows A j k c =
+pub fewer_apart : (rows : List PairRecord) (n : ℕ) → Apart rows → Apart (take n rows)
+fewer_apart rows n A j k c =
+    let size = length-take n rows in
+    let inside : k < length rows = omega (arith, c.inside, size) in
+    let few : k < n = omega (arith, c.inside, size) in
+    let at : (i : ℕ) → i < n → slice_index_or (take n rows) i blank ≡ slice_index_or rows i blank = λ i h. get_or-take _ _ _ _ h in
+    let front : j < n = omega (arith, few, c.before) in
+    A j k (record {
+      before = c.before;
+      inside = inside;
+      accounts = sym (ap (λ (p : PairRecord). p.account) (at j front)) ∙ c.accounts ∙ ap (λ (p : PairRecord). p.account) (at k few);
+      items = sym (ap (λ (p : PairRecord). p.item) (at j front)) ∙ c.items ∙ ap (λ (p : PairRecord). p.item) (at k few);
+    })
+
+pub rest_apart : (p : PairRecord) (rows : List PairRecord) → Apart (p ∷ rows) → Apart rows
+rest_apart p rows A j k c =
     A (suc j) (suc k) (let b = c.before in let h = c.inside in record { before = omega arith; inside = omega arith; accounts = c.accounts; items = c.items })
 
 pub look_none : (a i : ℕ) → look [] a i ≡ nothing
@@ -50,7 +65,7 @@ look_at [] k a i A l e d = absurd (omega arith)
 look_at (p ∷ rows) zero a i A l e d = look_here p rows a i e d
 look_at (p ∷ rows) (suc k) a i A l e d =
     look_past p rows a i (λ x y. A 0 (suc k) (record { before = omega arith; inside = l; accounts = x ∙ sym e; items = y ∙ sym d }))
-    ∙ look_at rows k a i (fewer_apart p rows A) (omega arith) e d
+    ∙ look_at rows k a i (rest_apart p rows A) (omega arith) e d
 
 -- one more record is a put
 pub look_more : (p : PairRecord) (rows : List PairRecord) → look (p ∷ rows) ≡ put (look rows) p.account p.item (figures p)
@@ -58,6 +73,10 @@ unfolding look put
 look_more p rows = refl
 
 -- of two puts of one pair the first does not count; puts of two pairs can change places
+-- a write past the records does not count
+pub look_set_past : (rows : List PairRecord) (k : ℕ) (p : PairRecord) → length rows ≤ k → (b j : ℕ) → look (slice_set rows k p) b j ≡ look rows b j
+look_set_past rows k p h b j = ap (λ (v : List PairRecord). look v b j) (set_past rows k p h)
+
 twice : (t : Bool) (f g h : Figures) → cond t g (cond t f h) ≡ cond t g h
 twice true f g h = refl
 twice false f g h = refl
@@ -89,7 +108,7 @@ look_set (q ∷ rows) zero a i p A l e d e' d' =
     ∙ ap (λ (m : Book). put m a i (figures p)) (sym (look_more q rows))
 look_set (q ∷ rows) (suc k) a i p A l e d e' d' =
     look_more q (slice_set rows k p)
-    ∙ ap (λ (m : Book). put m q.account q.item (figures q)) (look_set rows k a i p (fewer_apart q rows A) (omega arith) e d e' d')
+    ∙ ap (λ (m : Book). put m q.account q.item (figures q)) (look_set rows k a i p (rest_apart q rows A) (omega arith) e d e' d')
     ∙ put_across (look rows) q.account q.item (figures q) a i (figures p)
     (λ x y. A 0 (suc k) (record { before = omega arith; inside = l; accounts = x ∙ sym e; items = y ∙ sym d }))
     ∙ ap (λ (m : Book). put m a i (figures p)) (sym (look_more q rows))
