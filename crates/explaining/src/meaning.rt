@@ -3,7 +3,7 @@ ghost use Rattle.explaining.specs.Meanings.{meaning, refusal_numbered, NumbersBa
 
 use market::Refusal;
 
-// What a refusal means, in words.
+// What a refusal means, in words: a text and no Display, since rows of bytes take it as it is.
 pub fn meaning_of(refusal: Refusal) -> &'static str
     ensures { result.now ≡ meaning refusal }
 {
@@ -43,7 +43,7 @@ pub fn meaning_of(refusal: Refusal) -> &'static str
     }
 }
 
-// The refusal of a number, if there is one. Every refusal is found again by its number.
+// The refusal of a number, if there is one; asked for here alone. Every refusal is found again by its number.
 pub fn refusal_numbered(number: u64) -> Option<Refusal>
     ensures value { result ≡ refusal_numbered number }
     ensures back { NumbersBack }

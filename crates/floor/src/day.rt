@@ -52,7 +52,7 @@ impl<L: Ledger, T: Tape> Floor<L, T> {
         Ok(0)
     }
 
-    // Every live order is cancelled, in the table's sequence.
+    // Every live order is cancelled, in the table's sequence: by place, since each cancel changes the table.
     fn cancel_all(&mut self)
         ensures after { state self.new ≡ effects (state self.old) (close_events self.old.day.table.orders.items) }
         ensures room { room self.new ≡ room self.old }

@@ -14,7 +14,8 @@ use rules::{Payment, Refused};
 use tape::{Line, PaymentLine, Tape};
 
 impl<L: Ledger, T: Tape> Floor<L, T> {
-    // The account has so much more of the item, if its ledger grants it.
+    // The account has so much more of the item, if its ledger grants it. In and out stay apart: each has a move, an event
+    // and a line of its own.
     pub(crate) fn paid_in(&mut self, p: PaymentLine) -> Result<(), Refusal>
         ensures answer { result ≡ pay_in_answer (L.Ledger.book self.old.ledger) p.account p.item p.sum }
         ensures after { state self.new ≡ moved result (state self.old) (effect (state self.old) (PaidIn p)) }

@@ -23,6 +23,7 @@ pub struct OrderTable {
 // All that a floor keeps but its ledger and its tape.
 #[derive(Drop)]
 pub struct Day {
+    // A flag beside the tables, and no Option of them: after a close they stay to be read.
     pub is_open: bool,
     pub last_date: u32,
     pub securities: Vec<Security>,

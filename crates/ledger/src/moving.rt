@@ -5,7 +5,7 @@ ghost use Rattle.ledger.specs.Laws.{Held, Released, Passed, PaidIn, DrawnOut};
 use crate::ledger::Ledger;
 use market::Refusal;
 
-// The five moves over any ledger, each with the law that it keeps.
+// The five moves over any ledger, each with the law that it keeps: five functions, since one could not name five laws.
 
 // A hold moves n from free to held, and keeps every total and what every account has.
 pub fn held_back<L: Ledger>(ledger: &mut L, account: u64, item: u32, n: u64) -> Result<(), Refusal>

@@ -44,6 +44,8 @@ fn is_sorted(sort: Sort, unit: u32, serial: u32, x: &Standing) -> bool
     x.order.kind.sort() == sort && is_named(unit, serial, x)
 }
 
+// What is found is a place, a number below the table's length and no reference: the floor changes the table by it.
+
 // The live negotiated order of the unit that names its partner with the number.
 #[tactic(auto, using(crate::proofs::Seeking::found_within))]
 pub fn find_waiting(orders: &[Standing], unit: u32, partner: u32, number: u32) -> Option<usize>

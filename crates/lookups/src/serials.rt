@@ -19,7 +19,8 @@ fn has_order(orders: &[Standing], unit: u32, serial: u32) -> bool
     orders.iter().any(|x| is_named(unit, serial, x))
 }
 
-// Whether the unit has used the serial today, for an order or for a cancel.
+// Whether the unit has used the serial today, for an order or for a cancel. Unit and serial come apart, as fields of an
+// order or of a cancel.
 pub fn serial_is_used(orders: &[Standing], cancels: &[Name], unit: u32, serial: u32) -> bool
     ensures { result ≡ is_some (first_place (of_unit unit serial) orders.now) || has_name unit serial cancels.now }
 {

@@ -42,6 +42,7 @@ pub enum CancelReason {
     Mismatch,
 }
 
+// Numbers are told by `number` and not by `From`: they are those of tapes and rows.
 impl Side {
     pub fn number(self) -> u8
         ensures { result ≡ side_number self }

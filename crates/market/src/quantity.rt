@@ -7,7 +7,8 @@ use crate::number::BadNumber;
 use crate::price::Price;
 use crate::ranges::Figure;
 
-// Sheets of a bond, or shares.
+// Sheets of a bond, or shares. A type apart from `Price`, whose code it repeats: a const parameter could tell the two
+// apart only by a number.
 #[derive(Clone, Copy, PartialEq, Eq)]
 pub struct Quantity {
     number: u32,

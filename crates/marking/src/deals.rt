@@ -5,7 +5,8 @@ ghost use Rattle.marking.specs.Deals.{alike, answers, how_many, pair_of, line_pa
 use market::Side;
 use tape::{Line, OrderLine, ReadingTape, lines_of};
 
-// Which lines of a deal are asked for: those of a side, or those that agree with a line of it.
+// Which lines of a deal are asked for: those of a side, or those that agree with a line of it. An enum and no closure,
+// since the definition of paired deals names both.
 #[derive(Clone, Copy)]
 enum Asked {
     Side(Side, u32),

@@ -4,7 +4,8 @@ ghost use Rattle.practice.specs.Requests.{entry_of, cancel_of, payment_of};
 use rules::{CancelOrder, Entry, Payment};
 use sheet::{Cancel, Order};
 
-// Requests carry the figures as the sheet has them: the floor judges them.
+// Requests carry the figures as the sheet has them: the floor judges them. Functions and no `From`, since sheets and
+// rules know nothing of one another.
 
 pub(crate) fn entry_of(order: Order) -> Entry
     ensures { result ≡ entry_of order }

@@ -25,6 +25,7 @@ fn is_in_range(c: &CancelOrder) -> bool
         && Figure::Time.admits(c.time)
 }
 
+// An Option and no error, as for orders and payments: figures out of range are all that can be wrong.
 pub fn cancel_for(c: &CancelOrder) -> Option<Cancelling>
     ensures { result ≡ (if cancel_in_range c.now then Some (cancelling c.now) else None) }
 {

@@ -1,6 +1,6 @@
 use market::{Class, Price};
 
-// A line of the list that an opening is given, as it came.
+// A line of the list that an opening is given, as it came: its class may be any number until the list is judged.
 #[derive(Clone, Copy)]
 pub struct ListEntry {
     pub code: u32,

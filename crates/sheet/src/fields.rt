@@ -11,7 +11,7 @@ const BLANK: u8 = b' ';
 // The code of a line is its field 1.
 pub(crate) const FIRST_FIELD: usize = 2;
 
-// No line has more figures.
+// No line has more figures; an array of as many takes no memory.
 pub(crate) const MOST_FIGURES: usize = 9;
 
 // The figures of a line from its first on, and the text behind them.
@@ -28,6 +28,7 @@ pub(crate) fn read_figures(fields: &[u8], wanted: usize) -> Result<Figures<'_>, 
 {
     let mut numbers = [0; MOST_FIGURES];
     let mut rest = fields;
+    // By number: a refusal names its field.
     for i in 0..wanted {
         let field = i + FIRST_FIELD;
         let [_, text @ ..] = rest else {
