@@ -24,13 +24,13 @@ pub struct Practice<L: Ledger, T: Tape> {
 fn answer_all<L: PairLedger, T: Tape>(
     heap: Global,
     floor: &mut Floor<L, T>,
-    mut reader: Reader<'_>,
+    reader: Reader<'_>,
 ) -> Result<Vec<Answer>, AllocError>
     ensures { IfOk result (λ v. Worked L.PairLedger.shares (whole floor.old) [] (told (left reader.entry)) v.items (whole floor.new)) }
 {
     let mut gathered = Gathered::new(heap)?;
     let mut answers = Vec::new(heap);
-    while let Some(numbered) = reader.next_line() {
+    for numbered in reader {
         answers.push(answer_line(floor, &mut gathered, numbered.line))?;
     }
     Ok(answers)

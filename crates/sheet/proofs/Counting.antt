@@ -10,7 +10,9 @@ use Rattle.sheet.specs.declared.fault.Fault.{Fault}
 use Rattle.sheet.specs.Faults.{fault}
 use Rattle.sheet.specs.Told.{Told}
 use Rattle.sheet.specs.Parsing.{parsed}
-use Rattle.sheet.specs.Handing.{Handed, numbered, sheet_lines, next_place, first_of, opening}
+use Rattle.std.specs.Option.{option_map, MatchOption}
+use Rattle.sheet.specs.declared.line.Numbered.{Numbered}
+use Rattle.sheet.specs.Handing.{Handed, numbered, sheet_lines, next_place, handed, first_of, rest_of, opening}
 
 abbrev lines_by : Option (List ℕ × List ℕ) → List (List ℕ)
 lines_by None = []
@@ -88,3 +90,12 @@ few_lines t hs e =
 
     ok_is_not_err : {xs : List Handed} {y : Fault} → ◌≡◌ {A = Result (List Handed) Fault} (Ok xs) (Err y) → ⊥
     ok_is_not_err e = let z : ◌≡◌ {A = ℕ} 0 1 = cc in omega arith
+
+-- a line that was handed out was the first of what was left
+pub yielded : (s t : List Handed) (r : Option Numbered) → option_map handed r ≡ first_of s → t ≡ rest_of s → MatchOption r ((s ≡ []) × (t ≡ [])) (λ x. s ≡ handed x ∷ t)
+yielded [] t None a b = (refl, b)
+yielded [] t (Some x) a b = let z : ◌≡◌ {A = ℕ} 0 1 = cc in absurd (omega arith)
+yielded (h ∷ hs) t None a b = let z : ◌≡◌ {A = ℕ} 0 1 = cc in absurd (omega arith)
+yielded (h ∷ hs) t (Some x) a b =
+    let e : handed x ≡ h = cc in
+    ap (λ (v : Handed). v ∷ hs) (sym e) ∙ ap (λ (v : List Handed). handed x ∷ v) (sym b)

@@ -1,5 +1,6 @@
 ghost use Rattle.std.specs.Prelude.{◌≡◌};
 ghost use Rattle.std.specs.Option.{option_map};
+ghost use Rattle.std.specs.Iterator.{YieldsFirstBy, item_count};
 ghost use Rattle.sheet_text.specs.Lines.{LinesOf};
 ghost use Rattle.sheet.specs.Handing.{left, handed, then, first_of, rest_of, opening, opened};
 
@@ -46,5 +47,18 @@ impl<'a> Reader<'a> {
             place,
             line: read_line(line),
         })
+    }
+}
+
+impl<'a> Iterator for Reader<'a> {
+    type Item = Numbered<'a>;
+
+    ghost next_gives = { YieldsFirstBy handed left };
+
+    ghost remaining = { item_count left };
+
+    #[tactic(auto, using(crate::proofs::Counting::yielded))]
+    fn next(&mut self) -> Option<Numbered<'a>> {
+        self.next_line()
     }
 }

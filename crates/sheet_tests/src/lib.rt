@@ -13,10 +13,5 @@ mod tests;
 pub fn count_lines(sheet: &[u8]) -> Result<usize, Fault>
     ensures { result ≡ line_count sheet.now }
 {
-    let mut reader = Reader::new(sheet)?;
-    let mut count = 0;
-    while let Some(_) = reader.next_line() {
-        count += 1;
-    }
-    Ok(count)
+    Ok(Reader::new(sheet)?.count())
 }

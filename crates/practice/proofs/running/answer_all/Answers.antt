@@ -6,8 +6,8 @@ use Rattle.practice.proofs.running.answer_all.Goals as goal
 pub loop-numbered-preserved : goal.loop-numbered-preserved
 loop-numbered-preserved g c =
     turned _ _ _ _ _ _ _ _ _ _ _ _
-    (subst (Behind _ _ _ _ _ _) (ap told c.in-Some.ensures.step) c.loop-numbered.invariant)
+    (subst (Behind _ _ _ _ _ _) (ap told c.in-Some.ensures.steps) c.loop-numbered.invariant)
     c.answer_line.ensures.did c.answer_line.ensures.gathers c.in_ok-push.ensures.items
 
 pub returns : goal.returns
-returns g c = at_end _ _ _ _ _ _ _ (ap told c.in_default.ensures.step) c.loop-numbered.invariant
+returns g c = at_end _ _ _ _ _ _ _ (ap told c.in-None.ensures.steps.0) c.loop-numbered.invariant

@@ -7,7 +7,4 @@ use Rattle.practice.proofs.running.answer_all.Given as goal
 
 abbrev pub invariant-loop-numbered : goal.invariant-loop-numbered
 invariant-loop-numbered g l =
-    Behind g.L.PairLedger.shares (desk g.L.Ledger.book g.L.Ledger.room g.T.Tape.contents l.initial.floor) (told (left l.initial.reader)) (vec_items l.answers) (desk g.L.Ledger.book g.L.Ledger.room g.T.Tape.contents l.floor) (vec_items l.gathered.entries) (told (left l.reader))
-
-abbrev pub decreases-loop-numbered : goal.decreases-loop-numbered
-decreases-loop-numbered g l = length (left l.reader)
+    Behind g.L.PairLedger.shares (desk g.L.Ledger.book g.L.Ledger.room g.T.Tape.contents l.initial.floor) (told (left l.initial.numbered-iterator)) (vec_items l.answers) (desk g.L.Ledger.book g.L.Ledger.room g.T.Tape.contents l.floor) (vec_items l.gathered.entries) (told (left l.numbered-iterator))
