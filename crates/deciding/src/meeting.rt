@@ -9,7 +9,7 @@ use rules::{Follow, Order, Standing};
 fn agrees(order: &Order, x: &Standing) -> bool
     ensures { result ≡ fits order.now x.now && (order.now.quantity.number == x.now.live.number) }
 {
-    does_fit(order, x) && order.quantity.get() == x.live.get()
+    does_fit(order, x) && order.quantity == x.live
 }
 
 // A negotiated order and the one that waits for it, if any: all or nothing.

@@ -45,6 +45,6 @@ impl<L: Ledger, T: Tape> Floor<L, T> {
             unit: asked.unit,
             serial: asked.serial,
         });
-        Ok(self.tape.count().saturating_sub(before))
+        Ok(self.lines_since(before))
     }
 }

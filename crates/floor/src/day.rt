@@ -75,6 +75,6 @@ impl<L: Ledger, T: Tape> Floor<L, T> {
         let before = self.tape.count();
         self.cancel_all();
         self.day.is_open = false;
-        Ok(self.tape.count().saturating_sub(before))
+        Ok(self.lines_since(before))
     }
 }

@@ -44,6 +44,6 @@ impl<L: Ledger, T: Tape> Floor<L, T> {
         let next = decide(&self.day.securities, &self.day.table.orders, &order);
         self.entered(order);
         self.follow(next, order.time);
-        Ok(self.tape.count().saturating_sub(before))
+        Ok(self.lines_since(before))
     }
 }

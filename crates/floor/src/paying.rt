@@ -14,8 +14,8 @@ use rules::{Payment, Refused};
 use tape::{Line, PaymentLine, Tape};
 
 impl<L: Ledger, T: Tape> Floor<L, T> {
-    // The account has so much more of the item, if its ledger grants it. In and out stay apart: each has a move, an event
-    // and a line of its own.
+    // The account has so much more of the item, if its ledger grants it. In and out stay apart: each has a move, an
+    // event and a line of its own.
     pub(crate) fn paid_in(&mut self, p: PaymentLine) -> Result<(), Refusal>
         ensures answer { result ≡ pay_in_answer (L.Ledger.book self.old.ledger) p.account p.item p.sum }
         ensures after { state self.new ≡ moved result (state self.old) (effect (state self.old) (PaidIn p)) }
@@ -49,7 +49,7 @@ impl<L: Ledger, T: Tape> Floor<L, T> {
         let before = self.tape.count();
         self.paid_in(line)
             .map_err(|e| Refused::Ledger(e, line.item))?;
-        Ok(self.tape.count().saturating_sub(before))
+        Ok(self.lines_since(before))
     }
 
     pub fn draw_out(&mut self, payment: Payment) -> Result<usize, Refused>
@@ -62,6 +62,6 @@ impl<L: Ledger, T: Tape> Floor<L, T> {
         let before = self.tape.count();
         self.drawn_out(line)
             .map_err(|e| Refused::Ledger(e, line.item))?;
-        Ok(self.tape.count().saturating_sub(before))
+        Ok(self.lines_since(before))
     }
 }

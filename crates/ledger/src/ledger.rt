@@ -6,8 +6,8 @@ ghost use Rattle.ledger.specs.Moves.{hold_answer, hold_after, release_answer, re
 use market::Refusal;
 
 // For every account and item: whether the pair is open, what is free and what is held.
-// The questions alter nothing. A refused move leaves the book; no move opens or closes a pair. Account and item stay two
-// figures: as one they would be put together at each call, only to be taken apart.
+// The questions alter nothing. A refused move leaves the book; no move opens or closes a pair. Account and item stay
+// two figures: as one they would be put together at each call, only to be taken apart.
 pub trait Ledger {
     ghost book: { Self → Book };
 

@@ -8,9 +8,7 @@ use rules::{Name, Standing};
 fn has_name(names: &[Name], unit: u32, serial: u32) -> bool
     ensures { result ≡ has_name unit serial names.now }
 {
-    names
-        .iter()
-        .any(|name| name.unit == unit && name.serial == serial)
+    names.contains(&Name { unit, serial })
 }
 
 fn has_order(orders: &[Standing], unit: u32, serial: u32) -> bool

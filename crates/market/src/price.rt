@@ -6,7 +6,7 @@ use crate::number::BadNumber;
 use crate::ranges::Figure;
 
 // Thousandths of a yuan for one sheet or share.
-#[derive(Clone, Copy, PartialEq, Eq)]
+#[derive(Clone, Copy, PartialEq, Eq, PartialOrd, Ord)]
 pub struct Price {
     number: u32,
 }

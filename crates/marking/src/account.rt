@@ -1,5 +1,5 @@
 ghost use Rattle.std.specs.Prelude.{◌≡◌};
-ghost use Rattle.laws.specs.Accounts.{of_line, enters, deals, cancels};
+ghost use Rattle.laws.specs.Accounts.{of_line};
 ghost use Rattle.marking.specs.Orders.{account};
 
 use rules::Name;
@@ -24,33 +24,6 @@ fn quantity_for(o: &OrderLine, name: Name) -> u64
     }
 }
 
-fn entered_by(line: &Line, name: Name) -> u64
-    ensures { result ≡ enters name.unit name.serial line.now }
-{
-    match line {
-        Line::Entry(o) => quantity_for(o, name),
-        Line::Deal(_, _) | Line::Cancel(_, _) | Line::PaidIn(_) | Line::DrawnOut(_) => 0,
-    }
-}
-
-fn dealt_by(line: &Line, name: Name) -> u64
-    ensures { result ≡ deals name.unit name.serial line.now }
-{
-    match line {
-        Line::Deal(o, _) => quantity_for(o, name),
-        Line::Entry(_) | Line::Cancel(_, _) | Line::PaidIn(_) | Line::DrawnOut(_) => 0,
-    }
-}
-
-fn cancelled_by(line: &Line, name: Name) -> u64
-    ensures { result ≡ cancels name.unit name.serial line.now }
-{
-    match line {
-        Line::Cancel(o, _) => quantity_for(o, name),
-        Line::Entry(_) | Line::Deal(_, _) | Line::PaidIn(_) | Line::DrawnOut(_) => 0,
-    }
-}
-
 // What was entered, dealt and cancelled of an order, and what is live of it.
 pub fn account_of<T: ReadingTape>(tape: &T, name: Name) -> OrderAccount
     ensures { result ≡ account (T.Tape.contents tape.now).lines name }
@@ -59,9 +32,12 @@ pub fn account_of<T: ReadingTape>(tape: &T, name: Name) -> OrderAccount
     let mut dealt = 0;
     let mut cancelled = 0;
     for line in lines_of(tape) {
-        quantity += entered_by(&line, name);
-        dealt += dealt_by(&line, name);
-        cancelled += cancelled_by(&line, name);
+        match &line {
+            Line::Entry(o) => quantity += quantity_for(o, name),
+            Line::Deal(o, _) => dealt += quantity_for(o, name),
+            Line::Cancel(o, _) => cancelled += quantity_for(o, name),
+            Line::PaidIn(_) | Line::DrawnOut(_) => {}
+        }
     }
     let live = quantity as i64 - dealt as i64 - cancelled as i64;
     OrderAccount {

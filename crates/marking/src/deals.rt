@@ -69,6 +69,7 @@ fn is_paired<T: ReadingTape>(tape: &T, line: &Line) -> bool
 pub fn deals_paired<T: ReadingTape>(tape: &T) -> bool
     ensures { result ≡ all_paired (T.Tape.contents tape.now).lines (T.Tape.contents tape.now).lines }
 {
+    // A loop: of `all` over these lines the answer's value was not proved.
     for line in lines_of(tape) {
         if !is_paired(tape, &line) {
             return false;

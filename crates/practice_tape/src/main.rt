@@ -1,5 +1,5 @@
-// Reads a sheet from standard input, runs it over a new floor, and writes the bytes of its tape. It reads as practice_floor
-// does, in five lines of its own.
+// Reads a sheet from standard input, runs it over a new floor, and writes the bytes of its tape. It reads as
+// practice_floor does, in five lines of its own.
 #![tactic(auto)]
 
 use sheet_tape::tape_of;

@@ -13,7 +13,7 @@ mod terms;
 pub use cancelling::{Cancelling, cancel_for};
 pub use entering::order_for;
 pub use holding::check_holding;
-pub use listing::{FaultyEntry, MOST_SECURITIES, check_list, security_of};
+pub use listing::{FaultyList, MOST_SECURITIES, check_list, security_of};
 pub use opening::opening_date;
 pub use paying::{payment_is_allowed, payment_line_for};
 pub use terms::check_terms;

@@ -1,5 +1,6 @@
 ghost use Rattle.std.specs.Prelude.{◌≡◌, is_ok, IfErr};
 ghost use Rattle.rules.specs.declared.event.Refused.TheVariants.{List};
+ghost use Rattle.requests.specs.Lists.{told_entry};
 ghost use Rattle.rules.specs.Listing.{has_code, sound_entry, good_list, Faulty, security};
 
 use crate::classing::{class_or_bond, fits_class};
@@ -27,29 +28,36 @@ fn is_sound(before: &[ListEntry], e: &ListEntry) -> bool
         && e.low <= e.high
 }
 
-// The place of a list's first faulty entry, counted from 0, or 64 where the list is too long.
+// What is wrong with a list: it is too long, or an entry is faulty, the first that is, counted from 0.
 #[derive(Clone, Copy)]
-pub struct FaultyEntry(pub usize);
+pub enum FaultyList {
+    TooLong,
+    Entry(usize),
+}
 
-impl From<FaultyEntry> for Refused {
-    ghost from_gives = { λ e r. r ≡ List e.0 };
+// The floor tells of a list that is too long as of the entry behind its longest.
+impl From<FaultyList> for Refused {
+    ghost from_gives = { λ e r. r ≡ List (told_entry e) };
 
-    fn from(e: FaultyEntry) -> Refused {
-        Refused::List(e.0)
+    fn from(e: FaultyList) -> Refused {
+        match e {
+            FaultyList::TooLong => Refused::List(MOST_SECURITIES),
+            FaultyList::Entry(k) => Refused::List(k),
+        }
     }
 }
 
-// Refuses a list with its first faulty entry.
-pub fn check_list(list: &[ListEntry]) -> Result<(), FaultyEntry>
+// Refuses a list with what is wrong with it.
+pub fn check_list(list: &[ListEntry]) -> Result<(), FaultyList>
     ensures value { is_ok result ≡ good_list list.now }
-    ensures fault { IfErr result (λ e. Faulty list.now e.0) }
+    ensures fault { IfErr result (λ e. Faulty list.now (told_entry e)) }
 {
     if list.len() > MOST_SECURITIES {
-        return Err(FaultyEntry(MOST_SECURITIES));
+        return Err(FaultyList::TooLong);
     }
     for (k, e) in list.iter().enumerate() {
         if !is_sound(&list[0..k], e) {
-            return Err(FaultyEntry(k));
+            return Err(FaultyList::Entry(k));
         }
     }
     Ok(())

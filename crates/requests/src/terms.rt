@@ -9,7 +9,7 @@ use rules::{Order, Refused, Security};
 fn is_quoted(s: &Security, p: Price) -> bool
     ensures { result ≡ quoted s.now p }
 {
-    s.low.get() <= p.get() && p.get() <= s.high.get() && s.class.on_step(p)
+    s.low <= p && p <= s.high && s.class.on_step(p)
 }
 
 // The hours, price, amount and least size of an order for a listed security.

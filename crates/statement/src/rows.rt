@@ -9,6 +9,7 @@ use row_text::{Cell, Word, push_row};
 use std::alloc::AllocError;
 use tape::{Line, Movement, ReadingTape, lines_of, movement_of};
 
+// A list of cells for each sort of row.
 fn heading_cells(date: u32, count: usize) -> [Cell; 4]
     ensures { result ≡ heading_cells date count }
 {

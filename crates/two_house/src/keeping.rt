@@ -7,7 +7,8 @@ use market::Refusal;
 
 pub(crate) const MONEY: u32 = 0;
 
-// Each question and move goes to one house or the other; the two have types of their own, so no reference stands for both.
+// Each question and move goes to one house or the other; the two have types of their own, so no reference stands for
+// both.
 impl<B: Ledger, D: Ledger> Ledger for TwoHouse<B, D> {
     ghost book = { λ s. both (B.Ledger.book s.bank) (D.Ledger.book s.depository) };
 

@@ -1,4 +1,4 @@
-use Rattle.std.proofs.Common.{◌≡◌, ℕ, ◌+◌, ◌≤◌, List, pos, ◌-ℤ◌, ap, ◌∙◌, arith, w64, to_z, of_z}
+use Rattle.std.proofs.Common.{◌≡◌, ℕ, ◌+◌, ◌≤◌, List, pos, ◌-ℤ◌, sym, ap, ◌∙◌, arith, w64, to_z, of_z}
 use Rattle.std.proofs.lemmas.Int.{ints}
 use Rattle.tape.specs.declared.line.Line.{Line}
 use Rattle.tape.proofs.Ranged.{one_more, no_more}
@@ -13,7 +13,8 @@ overflow_add-quantity g c =
     let n = c.args.name.serial in
     let h : c.loop-line.quantity + enters u n c.in-Some.line ≤ entered (g.T.Tape.contents c.args.tape.now).lines u n = one_more (enters u n) _ _ _ _ _ c.in-Some.ensures.steps c.loop-line.invariant.0 in
     let s = entered_small u n (g.T.Tape.contents c.args.tape.now) (g.met.T.Tape.lawful c.args.tape.now) in
-    omega (arith, c.entered_by-quantity.ensures, h, s)
+    let e = c.quantity_for-quantity.ensures ∙ ap (enters u n) (sym c.in-Entry.is) in
+    omega (arith, e, h, s)
 
 pub overflow_add-dealt : goal.overflow_add-dealt
 overflow_add-dealt g c =
@@ -21,7 +22,8 @@ overflow_add-dealt g c =
     let n = c.args.name.serial in
     let h : c.loop-line.dealt + deals u n c.in-Some.line ≤ dealt (g.T.Tape.contents c.args.tape.now).lines u n = one_more (deals u n) _ _ _ _ _ c.in-Some.ensures.steps c.loop-line.invariant.1 in
     let s = dealt_small u n (g.T.Tape.contents c.args.tape.now) (g.met.T.Tape.lawful c.args.tape.now) in
-    omega (arith, c.dealt_by-dealt.ensures, h, s)
+    let e = c.quantity_for-dealt.ensures ∙ ap (deals u n) (sym c.in-Deal.is) in
+    omega (arith, e, h, s)
 
 pub overflow_add-cancelled : goal.overflow_add-cancelled
 overflow_add-cancelled g c =
@@ -29,7 +31,8 @@ overflow_add-cancelled g c =
     let n = c.args.name.serial in
     let h : c.loop-line.cancelled + cancels u n c.in-Some.line ≤ cancelled (g.T.Tape.contents c.args.tape.now).lines u n = one_more (cancels u n) _ _ _ _ _ c.in-Some.ensures.steps c.loop-line.invariant.2 in
     let s = cancelled_small u n (g.T.Tape.contents c.args.tape.now) (g.met.T.Tape.lawful c.args.tape.now) in
-    omega (arith, c.cancelled_by-cancelled.ensures, h, s)
+    let e = c.quantity_for-cancelled.ensures ∙ ap (cancels u n) (sym c.in-Cancel.is) in
+    omega (arith, e, h, s)
 
 pub overflow_cast-live : goal.overflow_cast-live
 overflow_cast-live g c =

@@ -66,7 +66,7 @@ returns g c =
     let cs = vec_items c.push_reserved.new.self in
     let t = cancelled_is s v c.args.cancel c.in_ok-asked.asked c.in_ok-place.place cs a.found (ap (λ (z : Cancelling). target_of s (widened z)) (sym a.found) ∙ k.found.named) c.cancelled.ensures.after c.push_reserved.ensures.items in
     record {
-      answer = wrote s _ (with_names v cs) _ _ _ _ (asked_passed s c.args.cancel c.in_ok-asked.asked _ a.answer a.found (k.answer s.book s.tape)) t c.saturating_sub.ensures c.count.ensures c.count-before.ensures;
+      answer = wrote s _ (with_names v cs) _ _ _ _ (asked_passed s c.args.cancel c.in_ok-asked.asked _ a.answer a.found (k.answer s.book s.tape)) t c.lines_since.ensures refl c.count-before.ensures;
       after = t;
       refused_changes_nothing = λ e. absurd (true≢false e);
       room = c.cancelled.ensures.room;

@@ -30,7 +30,7 @@ returns g c =
     let k = c.in_ok-order.ensures in
     let t = entered_is s v w c.args.entry c.in_ok-order.order _ _ _ k.order c.decide-next.ensures.value c.deref.ensures.value c.deref-2.ensures.value c.entered.ensures.after c.follow.ensures.after in
     record {
-      answer = wrote s _ w _ _ _ _ k.answer t c.saturating_sub.ensures c.count.ensures c.count-before.ensures;
+      answer = wrote s _ w _ _ _ _ k.answer t c.lines_since.ensures refl c.count-before.ensures;
       after = t;
       refused_changes_nothing = λ e. absurd (true≢false e);
       room = c.follow.ensures.room ∙ c.entered.ensures.room;
