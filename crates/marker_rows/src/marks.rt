@@ -1,5 +1,6 @@
 ghost use Rattle.std.specs.Prelude.{◌≡◌, ◌++◌, string_bytes, OnOk};
 ghost use Rattle.std.specs.List.{flat_map};
+ghost use Rattle.row_text.specs.Cells.{Pushed};
 ghost use Rattle.marker_rows.specs.Marks.{order_cells, order_row, paired_word, deals_row, marks};
 
 use marking::{OrderAccount, account_of, deals_paired, orders_of};
@@ -28,7 +29,7 @@ fn order_cells(name: Name, a: OrderAccount) -> [Cell; 12]
 }
 
 fn push_order<T: ReadingTape>(out: &mut String, tape: &T, name: Name) -> Result<(), AllocError>
-    ensures { OnOk result (string_bytes out.new ≡ string_bytes out.old ++ order_row (T.Tape.contents tape.now).lines name) }
+    ensures { Pushed result out.old out.new (order_row (T.Tape.contents tape.now).lines name) }
 {
     let account = account_of(tape, name);
     push_row(out, Word::Order, &order_cells(name, account))
@@ -36,7 +37,7 @@ fn push_order<T: ReadingTape>(out: &mut String, tape: &T, name: Name) -> Result<
 
 // A row for each order, by what the tape tells of it.
 fn push_orders<T: ReadingTape>(out: &mut String, tape: &T, names: &[Name]) -> Result<(), AllocError>
-    ensures { OnOk result (string_bytes out.new ≡ string_bytes out.old ++ flat_map (order_row (T.Tape.contents tape.now).lines) names.now) }
+    ensures { Pushed result out.old out.new (flat_map (order_row (T.Tape.contents tape.now).lines) names.now) }
 {
     for name in names {
         push_order(out, tape, *name)?;
@@ -52,7 +53,7 @@ fn paired_word(paired: bool) -> Word
 
 // Whether every deal number has its two lines.
 fn push_deals<T: ReadingTape>(out: &mut String, tape: &T) -> Result<(), AllocError>
-    ensures { OnOk result (string_bytes out.new ≡ string_bytes out.old ++ deals_row (T.Tape.contents tape.now).lines) }
+    ensures { Pushed result out.old out.new (deals_row (T.Tape.contents tape.now).lines) }
 {
     let word = paired_word(deals_paired(tape));
     push_row(out, Word::Deals, &[Cell::Word(word)])
@@ -64,7 +65,7 @@ pub fn push_marks<T: ReadingTape>(
     out: &mut String,
     tape: &T,
 ) -> Result<(), AllocError>
-    ensures { OnOk result (string_bytes out.new ≡ string_bytes out.old ++ marks (T.Tape.contents tape.now).lines) }
+    ensures { Pushed result out.old out.new (marks (T.Tape.contents tape.now).lines) }
 {
     let names = orders_of(heap, tape)?;
     push_orders(out, tape, names.as_slice())?;

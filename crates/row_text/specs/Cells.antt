@@ -2,7 +2,8 @@
 --   cell_text c     the bytes of a cell: a word, or a figure in decimal digits
 --   after_blank c   the same after a blank
 --   row_text w cs   a row: its first word, its cells each after a blank, the end of the line
-use Rattle.std.specs.Prelude.{ℕ, List, [], ◌∷◌, ◌++◌, decimal}
+--   Pushed r s t x  if r is Ok, the text t is s with the bytes x behind it
+use Rattle.std.specs.Prelude.{◌≡◌, ℕ, List, [], ◌∷◌, ◌++◌, decimal, Result, OnOk, String, string_bytes}
 use Rattle.std.specs.List.{flat_map}
 use Rattle.std.specs.Fmt.{signed_decimal}
 use Rattle.row_text.specs.declared.cells.Cell.{Cell}
@@ -20,3 +21,6 @@ after_blank c = 32 ∷ cell_text c
 
 abbrev pub row_text : a_word → List Cell → List ℕ
 row_text w cs = word_text w ++ flat_map after_blank cs ++ (10 ∷ [])
+
+abbrev pub Pushed : {X E Z : Type 0} → Result X E → String Z → String Z → List ℕ → Type 0
+Pushed r s t x = OnOk r (string_bytes t ≡ string_bytes s ++ x)

@@ -1,5 +1,5 @@
 ghost use Rattle.std.specs.Prelude.{◌≡◌, ◌++◌, Some, string_bytes, OnOk};
-ghost use Rattle.row_text.specs.Cells.{cell_text, row_text};
+ghost use Rattle.row_text.specs.Cells.{cell_text, row_text, Pushed};
 
 use crate::words::Word;
 use std::alloc::AllocError;
@@ -28,7 +28,7 @@ impl fmt::Display for Cell {
 
 // A row: its first word, its cells, and the end of the line.
 pub fn push_row(out: &mut String, first: Word, cells: &[Cell]) -> Result<(), AllocError>
-    ensures { OnOk result (string_bytes out.new ≡ string_bytes out.old ++ row_text first cells.now) }
+    ensures { Pushed result out.old out.new (row_text first cells.now) }
 {
     write!(out, "{first}")?;
     for cell in cells {

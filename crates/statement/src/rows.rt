@@ -1,5 +1,6 @@
 ghost use Rattle.std.specs.Prelude.{◌≡◌, ◌++◌, string_bytes, OnOk};
 ghost use Rattle.std.specs.List.{flat_map};
+ghost use Rattle.row_text.specs.Cells.{Pushed};
 ghost use Rattle.statement.specs.Rows.{heading_cells, heading_row, line_cells, net_cells, line_row, line_rows, net_row};
 
 use crate::pairs::Pair;
@@ -72,19 +73,19 @@ fn net_cells(p: Pair, m: Movement) -> [Cell; 10]
 }
 
 pub(crate) fn push_heading<T: ReadingTape>(out: &mut String, tape: &T) -> Result<(), AllocError>
-    ensures { OnOk result (string_bytes out.new ≡ string_bytes out.old ++ heading_row (T.Tape.contents tape.now)) }
+    ensures { Pushed result out.old out.new (heading_row (T.Tape.contents tape.now)) }
 {
     push_row(out, Word::Tape, &heading_cells(tape.date(), tape.count()))
 }
 
 fn push_line(out: &mut String, k: usize, line: &Line) -> Result<(), AllocError>
-    ensures { OnOk result (string_bytes out.new ≡ string_bytes out.old ++ line_row k line.now) }
+    ensures { Pushed result out.old out.new (line_row k line.now) }
 {
     push_row(out, Word::Line, &line_cells(k, line))
 }
 
 pub(crate) fn push_lines<T: ReadingTape>(out: &mut String, tape: &T) -> Result<(), AllocError>
-    ensures { OnOk result (string_bytes out.new ≡ string_bytes out.old ++ line_rows 0 (T.Tape.contents tape.now).lines) }
+    ensures { Pushed result out.old out.new (line_rows 0 (T.Tape.contents tape.now).lines) }
 {
     for (k, line) in lines_of(tape).enumerate() {
         push_line(out, k, &line)?;
@@ -93,7 +94,7 @@ pub(crate) fn push_lines<T: ReadingTape>(out: &mut String, tape: &T) -> Result<(
 }
 
 fn push_net<T: ReadingTape>(out: &mut String, tape: &T, p: Pair) -> Result<(), AllocError>
-    ensures { OnOk result (string_bytes out.new ≡ string_bytes out.old ++ net_row (T.Tape.contents tape.now).lines p) }
+    ensures { Pushed result out.old out.new (net_row (T.Tape.contents tape.now).lines p) }
 {
     let m = movement_of(tape, p.account, p.item);
     push_row(out, Word::Net, &net_cells(p, m))
@@ -104,7 +105,7 @@ pub(crate) fn push_nets<T: ReadingTape>(
     tape: &T,
     pairs: &[Pair],
 ) -> Result<(), AllocError>
-    ensures { OnOk result (string_bytes out.new ≡ string_bytes out.old ++ flat_map (net_row (T.Tape.contents tape.now).lines) pairs.now) }
+    ensures { Pushed result out.old out.new (flat_map (net_row (T.Tape.contents tape.now).lines) pairs.now) }
 {
     for p in pairs {
         push_net(out, tape, *p)?;
