@@ -2,10 +2,10 @@
 --   meaning r            the words for the refusal r
 --   refusal_numbered n   the refusal of the number n, if there is one
 --   NumbersBack         every refusal is found again by its number
-use Rattle.std.specs.Prelude.{◌≡◌, ℕ, cond, List, Some, None, codes, Option, ◌==◌}
+use Rattle.std.specs.Prelude.{◌≡◌, ℕ, List, Some, codes, Option}
 use Rattle.market.specs.declared.refusal.Refusal.{Refusal}
 use Rattle.market.specs.declared.refusal.Refusal.TheVariants.{EmptyLine, UnknownCode, FieldCount, NotDigits, SheetTooLong, OutOfRange, NotListed, OutsideHours, BadPrice, BelowLeastSize, AmountTooLarge, SerialUsed, NumberTaken, NoSuchOrder, NotLive, PairNotOpen, FreeTooSmall, BadPayment, TotalTooLarge, PairOpen, NoLedgerLine, MoreThanHeld, DayNotOpen, DayOpen, BadDate, BadList, SomethingHeld, TooFewPlaces, TooFewLines, TapeFull, NoSuchLine, NotATape}
-use Rattle.market.specs.Refusals.{refusal_number}
+use Rattle.market.specs.Refusals.{refusal_number, refusal_of}
 
 abbrev pub meaning : Refusal → List ℕ
 meaning EmptyLine = codes "empty line"
@@ -42,40 +42,7 @@ meaning NoSuchLine = codes "no such line"
 meaning NotATape = codes "bytes are no tape"
 
 abbrev pub refusal_numbered : ℕ → Option Refusal
-refusal_numbered n =
-    cond (n == 1) (Some EmptyLine)
-    (cond (n == 2) (Some UnknownCode)
-    (cond (n == 3) (Some FieldCount)
-    (cond (n == 4) (Some NotDigits)
-    (cond (n == 6) (Some SheetTooLong)
-    (cond (n == 11) (Some OutOfRange)
-    (cond (n == 12) (Some NotListed)
-    (cond (n == 13) (Some OutsideHours)
-    (cond (n == 15) (Some BadPrice)
-    (cond (n == 16) (Some BelowLeastSize)
-    (cond (n == 17) (Some AmountTooLarge)
-    (cond (n == 18) (Some SerialUsed)
-    (cond (n == 19) (Some NumberTaken)
-    (cond (n == 20) (Some NoSuchOrder)
-    (cond (n == 21) (Some NotLive)
-    (cond (n == 31) (Some PairNotOpen)
-    (cond (n == 32) (Some FreeTooSmall)
-    (cond (n == 33) (Some BadPayment)
-    (cond (n == 34) (Some TotalTooLarge)
-    (cond (n == 35) (Some PairOpen)
-    (cond (n == 36) (Some NoLedgerLine)
-    (cond (n == 37) (Some MoreThanHeld)
-    (cond (n == 41) (Some DayNotOpen)
-    (cond (n == 42) (Some DayOpen)
-    (cond (n == 43) (Some BadDate)
-    (cond (n == 44) (Some BadList)
-    (cond (n == 45) (Some SomethingHeld)
-    (cond (n == 46) (Some TooFewPlaces)
-    (cond (n == 47) (Some TooFewLines)
-    (cond (n == 48) (Some TapeFull)
-    (cond (n == 49) (Some NoSuchLine)
-    (cond (n == 50) (Some NotATape)
-    None)))))))))))))))))))))))))))))))
+refusal_numbered n = refusal_of n
 
 abbrev pub NumbersBack : Type 0
 NumbersBack = (r : Refusal) → refusal_numbered (refusal_number r) ≡ Some r

@@ -43,45 +43,10 @@ pub fn meaning_of(refusal: Refusal) -> &'static str
     }
 }
 
-// The refusal of a number, if there is one; asked for here alone. Every refusal is found again by its number.
+// The refusal of a number, if there is one. Every refusal is found again by its number.
 pub fn refusal_numbered(number: u64) -> Option<Refusal>
     ensures value { result ≡ refusal_numbered number }
     ensures back { NumbersBack }
 {
-    let refusal = match number {
-        1 => Refusal::EmptyLine,
-        2 => Refusal::UnknownCode,
-        3 => Refusal::FieldCount,
-        4 => Refusal::NotDigits,
-        6 => Refusal::SheetTooLong,
-        11 => Refusal::OutOfRange,
-        12 => Refusal::NotListed,
-        13 => Refusal::OutsideHours,
-        15 => Refusal::BadPrice,
-        16 => Refusal::BelowLeastSize,
-        17 => Refusal::AmountTooLarge,
-        18 => Refusal::SerialUsed,
-        19 => Refusal::NumberTaken,
-        20 => Refusal::NoSuchOrder,
-        21 => Refusal::NotLive,
-        31 => Refusal::PairNotOpen,
-        32 => Refusal::FreeTooSmall,
-        33 => Refusal::BadPayment,
-        34 => Refusal::TotalTooLarge,
-        35 => Refusal::PairOpen,
-        36 => Refusal::NoLedgerLine,
-        37 => Refusal::MoreThanHeld,
-        41 => Refusal::DayNotOpen,
-        42 => Refusal::DayOpen,
-        43 => Refusal::BadDate,
-        44 => Refusal::BadList,
-        45 => Refusal::SomethingHeld,
-        46 => Refusal::TooFewPlaces,
-        47 => Refusal::TooFewLines,
-        48 => Refusal::TapeFull,
-        49 => Refusal::NoSuchLine,
-        50 => Refusal::NotATape,
-        _ => return None,
-    };
-    Some(refusal)
+    Refusal::try_from(number).ok()
 }

@@ -1,5 +1,8 @@
 ghost use Rattle.std.specs.Prelude.{◌≡◌};
-ghost use Rattle.market.specs.Refusals.{refusal_number};
+ghost use Rattle.market.specs.Numbers.{Reads};
+ghost use Rattle.market.specs.Refusals.{refusal_number, refusal_of};
+
+use crate::number::BadNumber;
 
 // Every way in which a call can be refused, by whose hand.
 #[derive(Clone, Copy, PartialEq, Eq, Debug)]
@@ -81,5 +84,50 @@ impl Refusal {
             Refusal::NoSuchLine => 49,
             Refusal::NotATape => 50,
         }
+    }
+}
+
+impl TryFrom<u64> for Refusal {
+    type Error = BadNumber;
+
+    ghost try_from_gives = { Reads refusal_of };
+
+    fn try_from(n: u64) -> Result<Refusal, BadNumber> {
+        let refusal = match n {
+            1 => Refusal::EmptyLine,
+            2 => Refusal::UnknownCode,
+            3 => Refusal::FieldCount,
+            4 => Refusal::NotDigits,
+            6 => Refusal::SheetTooLong,
+            11 => Refusal::OutOfRange,
+            12 => Refusal::NotListed,
+            13 => Refusal::OutsideHours,
+            15 => Refusal::BadPrice,
+            16 => Refusal::BelowLeastSize,
+            17 => Refusal::AmountTooLarge,
+            18 => Refusal::SerialUsed,
+            19 => Refusal::NumberTaken,
+            20 => Refusal::NoSuchOrder,
+            21 => Refusal::NotLive,
+            31 => Refusal::PairNotOpen,
+            32 => Refusal::FreeTooSmall,
+            33 => Refusal::BadPayment,
+            34 => Refusal::TotalTooLarge,
+            35 => Refusal::PairOpen,
+            36 => Refusal::NoLedgerLine,
+            37 => Refusal::MoreThanHeld,
+            41 => Refusal::DayNotOpen,
+            42 => Refusal::DayOpen,
+            43 => Refusal::BadDate,
+            44 => Refusal::BadList,
+            45 => Refusal::SomethingHeld,
+            46 => Refusal::TooFewPlaces,
+            47 => Refusal::TooFewLines,
+            48 => Refusal::TapeFull,
+            49 => Refusal::NoSuchLine,
+            50 => Refusal::NotATape,
+            _ => return Err(BadNumber(n)),
+        };
+        Ok(refusal)
     }
 }
