@@ -26,6 +26,6 @@ returns g c =
     record {
       law = law_of (g.L.Ledger.book c.args.ledger) (g.L.Ledger.room c.args.ledger) _ (g.T.Tape.contents c.args.tape) c.args.calls.now _ _
           (g.met.L.Ledger.lawful c.args.ledger)
-          (told_end _ _ _ c.args.calls.now c.loop-call.call-index _ f.view c.loop-call-test.false k.0)
+          (told_end _ _ _ c.args.calls.now c.loop-call.call-index _ f.state c.loop-call-test.false k.0)
           (k.1 ∙ f.room);
     }
