@@ -25,6 +25,7 @@ pub struct OrderTable {
 pub struct Day {
     // A flag beside the tables, and no Option of them: after a close they stay to be read.
     pub is_open: bool,
+    // 0 before the first opening, as a tape's date is.
     pub last_date: u32,
     pub securities: Vec<Security>,
     pub table: OrderTable,

@@ -55,6 +55,7 @@ pub fn check_list(list: &[ListEntry]) -> Result<(), FaultyList>
     if list.len() > MOST_SECURITIES {
         return Err(FaultyList::TooLong);
     }
+    // A loop: each entry is judged beside those before it.
     for (k, e) in list.iter().enumerate() {
         if !is_sound(&list[0..k], e) {
             return Err(FaultyList::Entry(k));
@@ -63,7 +64,7 @@ pub fn check_list(list: &[ListEntry]) -> Result<(), FaultyList>
     Ok(())
 }
 
-// The security that an entry without fault gives.
+// The security that an entry without fault gives; both types are of `rules`, so no `From` can stand here.
 pub fn security_of(e: &ListEntry) -> Security
     ensures { result ≡ security e.now }
 {

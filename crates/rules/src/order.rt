@@ -11,9 +11,10 @@ pub struct Order {
     pub security: u32,
     pub quantity: Quantity,
     pub price: Price,
-    // The unit that a deal order names, else 0.
+    // The unit that a deal order names, else 0, as an entry has it.
     pub counterpart: u32,
-    // A deal order's number, or the number that a firm quote was given; 0 for an intention.
+    // A deal order's number, or the number that a firm quote was given; 0 for an intention, as
+    // its lines have it.
     pub agreement: u32,
     pub time: u32,
 }

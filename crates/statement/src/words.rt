@@ -5,6 +5,7 @@ use market::{CancelReason, OrderKind, Side};
 use row_text::Word;
 use tape::Line;
 
+// Words for values: functions and no `From`, since values and words are of other crates.
 pub(crate) fn kind_word(line: &Line) -> Word
     ensures { result ≡ kind_word line.now }
 {
