@@ -8,7 +8,7 @@ use Rattle.ledger.specs.Opening.{new_pair, open_answer, open_after, SameFigures}
 use Rattle.ledger.proofs.Adding.{sum_to_none}
 use Rattle.ledger.proofs.Pairs.{opened_lawful, opened_same}
 use Rattle.line_ledger.specs.declared.record.PairRecord.{PairRecord}
-use Rattle.line_ledger.specs.Rows.{blank, figures, row, look, Kept}
+use Rattle.line_ledger.specs.Rows.{blank, row, look, Kept}
 use Rattle.line_ledger.specs.Opening.{no_pairs}
 use Rattle.line_ledger.specs.Reading.{look_more, look_at, kept_lawful}
 
@@ -60,9 +60,6 @@ kept_push rows p K h r L =
       bounded = L.bounded;
     }
 
-pub look_pushed : (rows : List PairRecord) (p : PairRecord) → Kept rows → (look rows p.account p.item).is_open ≡ false → look (rows ++ p ∷ []) ≡ put (look rows) p.account p.item (figures p)
-look_pushed rows p K h = look_more rows p
-
 -- a pair opened with nothing
 opened_book : (rows : List PairRecord) (p : PairRecord) → Kept rows → (look rows p.account p.item).is_open ≡ false → in_range p.account p.item ≡ true → p.free ≡ 0 → p.held ≡ 0 → look (rows ++ p ∷ []) ≡ open_after (look rows) 1 p.account p.item
 unfolding open_answer open_after
@@ -70,7 +67,7 @@ opened_book rows p K c r f h =
     let m = look rows in
     let a = p.account in
     let i = p.item in
-    look_pushed rows p K c
+    look_more rows p
     ∙ ap (λ (x : ℕ). put m a i (record { is_open = true; free = x; held = p.held })) f
     ∙ ap (λ (x : ℕ). put m a i (record { is_open = true; free = 0; held = x })) h
     ∙ ap (λ (x : Answer). when_done x (put m a i new_pair) m) (sym (cond-true (in_range a i) _ _ r ∙ cond-false (m a i).is_open _ _ c))
@@ -82,3 +79,6 @@ kept_opened rows xs p e K c r f h =
 pub same_figures : (rows xs : List PairRecord) (p : PairRecord) → xs ≡ rows ++ p ∷ [] → Kept rows → false ≡ (look rows p.account p.item).is_open → true ≡ in_range p.account p.item → p.free ≡ 0 → p.held ≡ 0 → SameFigures (look rows) (look xs)
 same_figures rows xs p e K c r f h =
     subst (SameFigures (look rows)) (sym (ap look e ∙ opened_book rows p K (sym c) (sym r) f h)) (opened_same (look rows) 1 p.account p.item (kept_lawful rows K))
+
+-- what an opening is proved by
+pub ruleset opens = (look_more, same_figures)
