@@ -1,16 +1,16 @@
 -- A table with no record, and one more record: a pair opened with nothing.
-use Rattle.std.proofs.Common.{◌≡◌, ◌≢◌, ℕ, suc, ◌<◌, true, false, List, [], ◌∷◌, ◌++◌, length, sym, refl, ap, ◌∙◌, subst, ⊎_elim, arith}
+use Rattle.std.proofs.Common.{◌≡◌, ◌≢◌, ℕ, ◌<◌, true, false, List, [], ◌∷◌, ◌++◌, length, sym, refl, ap, ◌∙◌, subst, ⊎_elim, arith}
 use Rattle.std.proofs.lemmas.List.{length_push, get_or_push, get_or_append_left}
 use Rattle.std.proofs.lemmas.Bool.{cases_eq, true≢false, cond-true, cond-false}
-use Rattle.ledger.specs.Books.{Figures, Book, accounts_end, in_range, total, Lawful}
+use Rattle.ledger.specs.Books.{Figures, accounts_end, in_range, total, Lawful}
 use Rattle.ledger.specs.Moves.{Answer, put, when_done}
 use Rattle.ledger.specs.Opening.{new_pair, open_answer, open_after, SameFigures}
 use Rattle.ledger.proofs.Adding.{sum_to_none}
 use Rattle.ledger.proofs.Pairs.{opened_lawful, opened_same}
 use Rattle.line_ledger.specs.declared.record.PairRecord.{PairRecord}
-use Rattle.line_ledger.specs.Rows.{blank, figures, row, look, Kept}
+use Rattle.line_ledger.specs.Rows.{blank, row, look, Kept}
 use Rattle.line_ledger.specs.Opening.{no_pairs}
-use Rattle.line_ledger.specs.Reading.{look_more, put_across, look_at, kept_lawful}
+use Rattle.line_ledger.specs.Reading.{look_more, look_at, kept_lawful}
 
 kept_none : Kept []
 unfolding look total
@@ -33,14 +33,6 @@ Fresh rows p = (k : ℕ) → k < length rows → (row rows k).account ≡ p.acco
 
 fresh : (rows : List PairRecord) (p : PairRecord) → Kept rows → (look rows p.account p.item).is_open ≡ false → Fresh rows p
 fresh rows p K h k l e d = true≢false (sym (ap (λ (f : Figures). f.is_open) (look_at rows k p.account p.item K.apart l e d)) ∙ h)
-
-look_push : (rows : List PairRecord) (p : PairRecord) → Fresh rows p → look (rows ++ p ∷ []) ≡ put (look rows) p.account p.item (figures p)
-look_push [] p h = look_more p []
-look_push (q ∷ rows) p h =
-    look_more q (rows ++ p ∷ [])
-    ∙ ap (λ (m : Book). put m q.account q.item (figures q)) (look_push rows p (λ k l. h (suc k) (omega arith)))
-    ∙ put_across (look rows) q.account q.item (figures q) p.account p.item (figures p) (h 0 (omega arith))
-    ∙ ap (λ (m : Book). put m p.account p.item (figures p)) (sym (look_more q rows))
 
 -- a place of the longer list is an old one or the last
 each_push : (P : ℕ → PairRecord → Type 0) (rows : List PairRecord) (p : PairRecord) → P (length rows) p → ((k : ℕ) → k < length rows → P k (row rows k)) → (k : ℕ) → k < length (rows ++ p ∷ []) → P k (row (rows ++ p ∷ []) k)
@@ -68,9 +60,6 @@ kept_push rows p K h r L =
       bounded = L.bounded;
     }
 
-pub look_pushed : (rows : List PairRecord) (p : PairRecord) → Kept rows → (look rows p.account p.item).is_open ≡ false → look (rows ++ p ∷ []) ≡ put (look rows) p.account p.item (figures p)
-look_pushed rows p K h = look_push rows p (fresh rows p K h)
-
 -- a pair opened with nothing
 opened_book : (rows : List PairRecord) (p : PairRecord) → Kept rows → (look rows p.account p.item).is_open ≡ false → in_range p.account p.item ≡ true → p.free ≡ 0 → p.held ≡ 0 → look (rows ++ p ∷ []) ≡ open_after (look rows) 1 p.account p.item
 unfolding open_answer open_after
@@ -78,7 +67,7 @@ opened_book rows p K c r f h =
     let m = look rows in
     let a = p.account in
     let i = p.item in
-    look_pushed rows p K c
+    look_more rows p
     ∙ ap (λ (x : ℕ). put m a i (record { is_open = true; free = x; held = p.held })) f
     ∙ ap (λ (x : ℕ). put m a i (record { is_open = true; free = 0; held = x })) h
     ∙ ap (λ (x : Answer). when_done x (put m a i new_pair) m) (sym (cond-true (in_range a i) _ _ r ∙ cond-false (m a i).is_open _ _ c))
@@ -90,3 +79,6 @@ kept_opened rows xs p e K c r f h =
 pub same_figures : (rows xs : List PairRecord) (p : PairRecord) → xs ≡ rows ++ p ∷ [] → Kept rows → false ≡ (look rows p.account p.item).is_open → true ≡ in_range p.account p.item → p.free ≡ 0 → p.held ≡ 0 → SameFigures (look rows) (look xs)
 same_figures rows xs p e K c r f h =
     subst (SameFigures (look rows)) (sym (ap look e ∙ opened_book rows p K (sym c) (sym r) f h)) (opened_same (look rows) 1 p.account p.item (kept_lawful rows K))
+
+-- what an opening is proved by
+pub ruleset opens = (look_more, same_figures)

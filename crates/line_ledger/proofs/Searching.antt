@@ -1,9 +1,9 @@
 -- Where a pair's record stands, and whether a record holds something.
-use Rattle.std.proofs.Common.{◌==◌, ◌&&◌, not, nat_lt, ◌≡◌, ℕ, suc, ◌<◌, ◌≢◌, Bool, true, false, cond, List, [], ◌∷◌, length, Option, Some, None, Decides, MatchOption, MatchResult, ok_or, sym, refl, ap, ◌∙◌, subst, ⊎_elim, arith}
+use Rattle.std.proofs.Common.{◌==◌, ◌&&◌, not, nat_lt, ◌≡◌, ℕ, suc, ◌<◌, ◌≢◌, Bool, true, false, List, [], ◌∷◌, length, Option, Some, None, Decides, MatchOption, MatchResult, ok_or, sym, refl, ap, ◌∙◌, subst, ⊎_elim, arith}
 use borrow.Author.Rules.{get_or_read}
 use Rattle.std.specs.List.{HoldsAt, AllWithin, list_any}
 use Rattle.std.proofs.lemmas.List.Folds.{Any-from_list_any, list_any_at}
-use Rattle.std.proofs.lemmas.Bool.{and_from, and_parts, eqb-true, eqb-false, ne_eqb, lt-ltb, ltb-true, not-true, cases_Bool, cond-true, cond-false}
+use Rattle.std.proofs.lemmas.Bool.{and_from, and_parts, eqb-true, eqb-false, ne_eqb, lt-ltb, ltb-true, not-true, cases_Bool, cond-true}
 use Rattle.std.proofs.lemmas.Bool.Decides.{same_from_decides}
 use Rattle.market.specs.declared.refusal.Refusal.TheVariants.{PairNotOpen}
 use Rattle.ledger.specs.Books.{Figures, Book, nothing, Lawful}
@@ -12,7 +12,7 @@ use Rattle.ledger.proofs.Puts.{in_accounts, in_items}
 use Rattle.ledger.proofs.Holding.{HeldIn, money_decides, security_decides}
 use Rattle.line_ledger.specs.declared.record.PairRecord.{PairRecord}
 use Rattle.line_ledger.specs.Rows.{blank, figures, row, stands, look, Place, Kept}
-use Rattle.line_ledger.specs.Reading.{stands_is, look_fresh, look_at, kept_lawful}
+use Rattle.line_ledger.specs.Reading.{stands_is, look_closed, front_here, front_past, look_fresh, look_at, kept_lawful}
 
 -- what a search for the pair's record found
 abbrev IsOf : ℕ → ℕ → PairRecord → Type 0
@@ -31,14 +31,21 @@ held_row : (rows : List PairRecord) (a i : ℕ) → 0 < (look rows a i).held →
 unfolding look
 held_row [] a i h = absurd (omega arith)
 held_row (p ∷ rows) a i h = ⊎_elim
-    (λ (s : stands p a i ≡ true).
-    let e : (cond (stands p a i) (figures p) (look rows a i)).held ≡ p.held = ap (λ (f : Figures). f.held) (cond-true (stands p a i) _ _ s) in
-    (0, omega arith, (stands_is p a i s).1, omega arith))
-    (λ (s : stands p a i ≡ false).
-    let e : (cond (stands p a i) (figures p) (look rows a i)).held ≡ (look rows a i).held = ap (λ (f : Figures). f.held) (cond-false (stands p a i) _ _ s) in
+    (λ (o : (look rows a i).is_open ≡ true).
+    let e : (look (p ∷ rows) a i).held ≡ (look rows a i).held = ap (λ (f : Figures). f.held) (cond-true (look rows a i).is_open _ _ o) in
     let w = held_row rows a i (omega arith) in
     (suc w.0, omega arith, w.2, w.3))
-    (cases_Bool (stands p a i))
+    (λ (c : (look rows a i).is_open ≡ false).
+    let z = look_closed rows a i c in
+    ⊎_elim
+    (λ (s : stands p a i ≡ true).
+    let e : (look (p ∷ rows) a i).held ≡ p.held = ap (λ (f : Figures). f.held) (front_here p rows a i s z) in
+    (0, omega arith, (stands_is p a i s).1, omega arith))
+    (λ (s : stands p a i ≡ false).
+    let e : (look (p ∷ rows) a i).held ≡ 0 = ap (λ (f : Figures). f.held) (front_past p rows a i s ∙ z) in
+    absurd (omega arith))
+    (cases_Bool (stands p a i)))
+    (cases_Bool (look rows a i).is_open)
 
 held_open : (m : Book) (a i : ℕ) → Lawful m → 0 < (m a i).held → (m a i).is_open ≡ true
 held_open m a i L h = ⊎_elim

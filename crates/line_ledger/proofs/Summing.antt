@@ -1,5 +1,5 @@
 -- An item's total is the sum over the records.
-use Rattle.std.proofs.Common.{◌≡◌, ℕ, suc, ◌+◌, ◌<◌, ◌≤◌, List, [], ◌∷◌, length, take, sym, ap, ◌∙◌, sum_by, take_all, arith}
+use Rattle.std.proofs.Common.{◌≡◌, ℕ, suc, ◌+◌, ◌<◌, ◌≤◌, List, [], ◌∷◌, length, take, sym, refl, ap, ◌∙◌, sum_by, take_all, arith}
 use Rattle.std.proofs.lemmas.List.Sums.{sum_by-cons, sum_by_more_le}
 use Rattle.ledger.specs.Books.{Book, accounts_end, limit, total, worth}
 use Rattle.ledger.specs.Moves.{put}
@@ -8,7 +8,7 @@ use Rattle.ledger.proofs.Adding.{sum_to_none}
 use Rattle.ledger.proofs.Puts.{in_accounts, of_here, of_zero, total_put}
 use Rattle.line_ledger.specs.declared.record.PairRecord.{PairRecord}
 use Rattle.line_ledger.specs.Rows.{blank, figures, row, look, Apart, Ranged, Kept}
-use Rattle.line_ledger.specs.Reading.{rest_apart, look_fresh, look_more}
+use Rattle.line_ledger.specs.Reading.{rest_apart, first_alone, look_front}
 
 -- what a record adds to an item's total
 abbrev pub weight : ℕ → PairRecord → ℕ
@@ -20,10 +20,9 @@ total_sum [] i A R = sum_to_none accounts_end
 total_sum (p ∷ rows) i A R =
     let ih = total_sum rows i (rest_apart p rows A) (λ k l. R (suc k) (omega arith)) in
     let s = sum_by-cons (weight i) p rows in
-    let m : total (look (p ∷ rows)) i ≡ total (put (look rows) p.account p.item (figures p)) i = ap (λ (x : Book). total x i) (look_more p rows) in
-    let w : worth (look rows p.account p.item) ≡ 0 =
-    ap worth (look_fresh rows p.account p.item (λ k l e d. A 0 (suc k) (record { before = omega arith; inside = omega arith; accounts = sym e; items = sym d })))
-    in
+    let f = first_alone p rows p.account p.item A refl refl in
+    let m : total (look (p ∷ rows)) i ≡ total (put (look rows) p.account p.item (figures p)) i = ap (λ (x : Book). total x i) (look_front p rows f) in
+    let w : worth (look rows p.account p.item) ≡ 0 = ap worth f in
     let t = total_put (look rows) p.account p.item (figures p) (p.free + p.held) 0 0 0 (in_accounts p.account p.item (R 0 (omega arith))) (omega arith) i in
     let z = of_zero p.item i in
     omega arith

@@ -2,7 +2,7 @@
 --   figures p          the figures in the record p: its pair is open
 --   row rows k         the record at place k
 --   stands p a i       whether p is a record of the pair a i
---   look rows          the book: a pair has the figures of its first record; one with no record has nothing
+--   look rows          the book: a pair has the figures of its last record; one with no record has nothing
 --   Place rows a i k   at place k stands the record of the pair a i, and the book says what it says
 --   Apart, Ranged, Bounded   no two records of one pair; each in range; no total above the limit
 --   Kept rows          what the records of a ledger keep to
@@ -25,7 +25,7 @@ stands p a i = same_pair p.account p.item a i
 
 unfoldable pub look : List PairRecord → Book
 look [] a i = nothing
-look (p ∷ rows) a i = cond (stands p a i) (figures p) (look rows a i)
+look (p ∷ rows) a i = cond (look rows a i).is_open (look rows a i) (cond (stands p a i) (figures p) nothing)
 
 pub record Place (rows : List PairRecord) (a i k : ℕ) : Type 0 where
   pub inside : k < length rows

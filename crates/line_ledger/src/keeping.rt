@@ -36,6 +36,7 @@ impl Ledger for LineLedger {
         self.rows.iter().any(|p| p.item != 0 && p.held > 0)
     }
 
+    // Hold and release stay two moves: their lines go opposite ways, and each has its own refusal.
     fn hold(&mut self, account: u64, item: u32, n: u64) -> Result<(), Refusal> {
         let k = self.place(account, item)?;
         let p = &mut self.rows[k];

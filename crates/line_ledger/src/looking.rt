@@ -29,6 +29,8 @@ impl LineLedger {
         }
     }
 
+    // What all accounts have of the item, free and held. A loop: its invariant says what is summed so far, and by that
+    // no addition passes the limit.
     #[tactic(auto, using(crate::proofs::Summing::sums), unfolding(ledger::specs::Books::limit, ledger::specs::Laws::of))]
     pub(crate) fn total_of(&self, item: u32) -> u64
         ensures sum { result ≡ total (line_book self.now) item }

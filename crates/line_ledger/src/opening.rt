@@ -38,7 +38,7 @@ impl LineLedger {
     }
 
     // Opens the pair with nothing free or held. No figure of any pair changes.
-    #[tactic(auto, using(crate::proofs::Opened::look_pushed), unfolding(ledger::specs::Opening::open_answer, ledger::specs::Opening::open_after))]
+    #[tactic(auto, using(crate::proofs::Opened::opens), unfolding(ledger::specs::Opening::open_answer, ledger::specs::Opening::open_after))]
     pub fn open_pair(&mut self, account: u64, item: u32) -> Result<(), Refusal>
         ensures answer { result ≡ open_answer (line_book self.old) (line_room self.old) account item }
         ensures after { line_book self.new ≡ open_after (line_book self.old) (line_room self.old) account item }
