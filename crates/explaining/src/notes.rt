@@ -35,6 +35,7 @@ fn number_note(number: &[u8]) -> Option<&'static str>
     refusal_numbered(figure(number)?).map(meaning_of)
 }
 
+// Compared by ==: with a pattern of three byte strings the goal `returns-in-sheet` stayed open.
 fn is_word(text: &[u8], word: &[u8]) -> bool
     ensures { result ≡ bytes_eq text.now word.now }
 {

@@ -37,6 +37,7 @@ pub fn explained(heap: Global, text: &[u8]) -> Result<Vec<u8>, AllocError>
 {
     let mut out = Vec::new(heap);
     let mut rest = text;
+    // By what is left of the text: that is what each row is cut from.
     while let Some((row, behind)) = first_line(rest) {
         push_row(&mut out, row)?;
         rest = behind;

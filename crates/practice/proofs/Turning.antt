@@ -37,7 +37,8 @@ turned share start d x all bs cs g h t ts a B D eg ec as' e w =
     subst (λ (v : List Answer). Worked share start [] all v e) (sym (ap (λ (v : List Answer). v ++ as') ec ∙ append_assoc bs (a ∷ []) as'))
     (B (a ∷ as') e (line_more share d x e g t ts a as' D (subst (λ (v : List ListEntry). Worked share x v ts as' e) eg w)))
 
-pub at_end : (share : Sharing) (start d : Desk) (all ts : List Told) (bs : List Answer) (g : List ListEntry) → ts ≡ [] → Behind share start all bs d g ts → Worked share start [] all bs d
-at_end share start d all ts bs g z B =
-    subst (λ (v : List Answer). Worked share start [] all v d) (append-nil bs)
-    (B [] d (subst (λ (v : List Told). Worked share d g v [] d) (sym z) (no_line share d g)))
+pub at_end : (share : Sharing) (start d : Desk) (all whole ts : List Told) (bs : List Answer) (g : List ListEntry) → all ≡ whole → ts ≡ [] → Behind share start all bs d g ts → Worked share start [] whole bs d
+at_end share start d all whole ts bs g w z B =
+    subst (λ (v : List Told). Worked share start [] v bs d) w
+    (subst (λ (v : List Answer). Worked share start [] all v d) (append-nil bs)
+    (B [] d (subst (λ (v : List Told). Worked share d g v [] d) (sym z) (no_line share d g))))

@@ -6,8 +6,8 @@ ghost use Rattle.practice.specs.Working.{Did};
 
 use crate::asking::{cancel_of, entry_of};
 use crate::gathered::Gathered;
-use crate::set_up::answer_set_up;
-use answers::{Answer, NotDone};
+use crate::set_up::{answer_set_up, reply_answer};
+use answers::Answer;
 use floor::Floor;
 use ledger::PairLedger;
 use sheet::{Fault, Line};
@@ -23,8 +23,8 @@ pub(crate) fn answer_line<L: PairLedger, T: Tape>(
     ensures gathers { gathered.new.entries.items ≡ gathers gathered.old.entries.items (says line.entry) }
 {
     match line? {
-        Line::Order { order, .. } => floor.enter(entry_of(order)).map_err(NotDone::Call),
-        Line::Cancel { cancel, .. } => floor.cancel(cancel_of(cancel)).map_err(NotDone::Call),
+        Line::Order { order, .. } => reply_answer(floor.enter(entry_of(order))),
+        Line::Cancel { cancel, .. } => reply_answer(floor.cancel(cancel_of(cancel))),
         Line::SetUp { act, .. } => answer_set_up(floor, gathered, act),
     }
 }

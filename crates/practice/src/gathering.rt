@@ -15,18 +15,12 @@ use std::alloc::{AllocError, Global};
 // No figure of a security may be larger.
 const MOST_FIGURE: u64 = 99_999_999;
 
-fn refused(refusal: Refusal) -> Fault
-    ensures { result ≡ fault refusal 0 }
-{
-    Fault { refusal, field: 0 }
-}
-
 // A figure of a security, if it is not too large.
 fn small(figure: u64) -> Result<u32, Fault>
     ensures { result ≡ small figure }
 {
     if figure > MOST_FIGURE {
-        return Err(refused(Refusal::OutOfRange));
+        return Err(Refusal::OutOfRange.into());
     }
     Ok(figure as u32)
 }
@@ -56,7 +50,7 @@ impl Gathered {
     {
         let entry = entry_of(code, class, low, high)?;
         if self.entries.len() >= MOST_SECURITIES {
-            return Err(refused(Refusal::BadList).into());
+            return Err(Fault::from(Refusal::BadList).into());
         }
         self.entries.push_reserved(entry);
         Ok(0)

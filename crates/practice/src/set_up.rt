@@ -1,6 +1,6 @@
 ghost use Rattle.std.specs.Prelude.{◌≡◌};
 ghost use Rattle.floor.specs.View.{whole};
-ghost use Rattle.practice.specs.Tasks.{set_up_task, set_up_gathers};
+ghost use Rattle.practice.specs.Tasks.{reply_told, move_told, set_up_task, set_up_gathers};
 ghost use Rattle.practice.specs.Working.{Did};
 
 use crate::asking::payment_of;
@@ -8,8 +8,25 @@ use crate::gathered::Gathered;
 use answers::{Answer, NotDone};
 use floor::Floor;
 use ledger::PairLedger;
+use market::Refusal;
+use rules::Refused;
 use sheet::SetUp;
 use tape::Tape;
+
+// What the floor replied, as an answer to the line that asked.
+pub(crate) fn reply_answer(reply: Result<usize, Refused>) -> Answer
+    ensures { result ≡ reply_told reply }
+{
+    reply.map_err(NotDone::Call)
+}
+
+fn pair_answer(moved: Result<(), Refusal>, item: u64) -> Answer
+    ensures { result ≡ move_told moved item }
+{
+    moved
+        .map(|()| 0)
+        .map_err(|refusal| NotDone::Pair { refusal, item })
+}
 
 // A set-up line. An opening takes the gathered securities, whether or not it is accepted.
 pub(crate) fn answer_set_up<L: PairLedger, T: Tape>(
@@ -21,16 +38,13 @@ pub(crate) fn answer_set_up<L: PairLedger, T: Tape>(
     ensures gathers { gathered.new.entries.items ≡ set_up_gathers gathered.old.entries.items act }
 {
     match act {
-        SetUp::OpenPair { account, item } => floor
-            .open_pair(account, item)
-            .map(|()| 0)
-            .map_err(|refusal| NotDone::Pair { refusal, item }),
+        SetUp::OpenPair { account, item } => pair_answer(floor.open_pair(account, item), item),
         SetUp::OpenDay { date } => {
             let reply = floor.open(date, gathered.entries.as_slice());
             gathered.entries.clear();
-            reply.map_err(NotDone::Call)
+            reply_answer(reply)
         }
-        SetUp::CloseDay => floor.close().map_err(NotDone::Call),
+        SetUp::CloseDay => reply_answer(floor.close()),
         SetUp::Security {
             code,
             class,
@@ -42,16 +56,12 @@ pub(crate) fn answer_set_up<L: PairLedger, T: Tape>(
             item,
             amount,
             time,
-        } => floor
-            .pay_in(payment_of(account, item, amount, time))
-            .map_err(NotDone::Call),
+        } => reply_answer(floor.pay_in(payment_of(account, item, amount, time))),
         SetUp::DrawOut {
             account,
             item,
             amount,
             time,
-        } => floor
-            .draw_out(payment_of(account, item, amount, time))
-            .map_err(NotDone::Call),
+        } => reply_answer(floor.draw_out(payment_of(account, item, amount, time))),
     }
 }

@@ -34,15 +34,9 @@ pub fn read_line(line: &[u8]) -> Result<Line<'_>, Fault>
     ensures only { Only line.now (says result) }
 {
     if line.is_empty() {
-        return Err(Fault {
-            refusal: Refusal::EmptyLine,
-            field: 0,
-        });
+        return Err(Refusal::EmptyLine.into());
     }
-    let (form, fields) = split_code(line).ok_or(Fault {
-        refusal: Refusal::UnknownCode,
-        field: 0,
-    })?;
+    let (form, fields) = split_code(line).ok_or(Refusal::UnknownCode)?;
     let found = read_figures(fields, form.figures())?;
     close_line(form, fields, found)
 }

@@ -21,10 +21,7 @@ impl<'a> Reader<'a> {
         ensures lines { LinesOf sheet.now }
     {
         if sheet.len() > MOST_BYTES {
-            return Err(Fault {
-                refusal: Refusal::SheetTooLong,
-                field: 0,
-            });
+            return Err(Refusal::SheetTooLong.into());
         }
         Ok(Reader {
             rest: sheet,

@@ -1,4 +1,4 @@
-use Rattle.std.proofs.Common.{length, vec_items}
+use Rattle.std.proofs.Common.{vec_items}
 use Rattle.sheet.specs.Handing.{left}
 use Rattle.floor.specs.View.{desk}
 use Rattle.practice.specs.Working.{told}

@@ -1,7 +1,9 @@
 use Rattle.std.proofs.Common.{◌≡◌, ℕ, take, Some, None, Err, sym, ap, ◌∙◌, rules}
 use Rattle.std.specs.Option.{option_map}
+use Rattle.market.specs.declared.refusal.Refusal.{Refusal}
+use Rattle.market.specs.declared.refusal.Refusal.TheVariants.{UnknownCode}
 use Rattle.sheet.specs.Codes.{announced}
-use Rattle.sheet.specs.Faults.{unknown}
+use Rattle.sheet.specs.Faults.{fault}
 use Rattle.sheet.specs.Parsing.{closed, parsed}
 use Rattle.sheet.specs.Told.{refused, says}
 use Rattle.sheet.proofs.Closing.{no_code, whole}
@@ -12,9 +14,9 @@ use Rattle.sheet.proofs.parsing.read_line.Goals as goal
 
 pub returns-in_err-form-clause-answer : goal.returns-in_err-form-clause-answer
 returns-in_err-form-clause-answer c =
-    let none : (None ≡ c.split_code.result) × (c.in_err-form.field-0.0 ≡ unknown) = error_of _ _ _ (sym c.ok_or.ensures.value ∙ c.in_err-form.was) in
-    let is : c.from_residual.result ≡ Err c.in_err-form.field-0.0 = search rules in
-    let told : refused c.in_err-form.field-0.0 ≡ parsed c.args.line.now = ap refused none.1 ∙ no_code c.args.line.now c.if-is_empty.ensures (ap (option_map (λ p. (p.0, p.1.now))) none.0 ∙ c.split_code.ensures) in
+    let none : (None ≡ c.split_code.result) × (c.in_err-form.field-0.0 ≡ UnknownCode) = error_of _ _ _ (sym c.ok_or.ensures.value ∙ c.in_err-form.was) in
+    let is : c.from_residual.result ≡ Err (fault c.in_err-form.field-0.0 0) = search rules in
+    let told : refused (fault c.in_err-form.field-0.0 0) ≡ parsed c.args.line.now = ap (λ (w : Refusal). refused (fault w 0)) none.1 ∙ no_code c.args.line.now c.if-is_empty.ensures (ap (option_map (λ p. (p.0, p.1.now))) none.0 ∙ c.split_code.ensures) in
     ap says is ∙ told
 
 pub returns-in_err-found : goal.returns-in_err-found
