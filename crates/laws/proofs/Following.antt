@@ -1,9 +1,10 @@
 -- What follows from an entry, case by case.
-use Rattle.std.proofs.Common.{◌≡◌, ℕ, ◌-◌, ◌<◌, true, cond, eqb, ltb, List, [], ◌∷◌, length, Some, None, Option, refl, ap, ◌∙◌, arith}
+use Rattle.std.proofs.Common.{◌≡◌, ℕ, ◌-◌, ◌<◌, true, cond, eqb, ltb, List, [], ◌∷◌, length, Some, None, Option, refl, ap, ◌∙◌, ⊎_elim, arith}
 use Rattle.std.proofs.lemmas.Bool.{cond-true, cond-false, lt-ltb, le-ltb, eq-eqb, ne_eqb}
 use Rattle.market.specs.declared.kinds.Side.{Side}
 use Rattle.market.specs.declared.kinds.Side.TheVariants.{Buy, Sell}
 use Rattle.market.specs.declared.kinds.OrderKind.{OrderKind}
+use Rattle.market.specs.declared.kinds.OrderKind.TheVariants.{Intention, FirmQuote}
 use Rattle.market.specs.declared.kinds.CancelReason.TheVariants.{QuoteRest, ClickRest, NoQuote, Mismatch}
 use Rattle.rules.specs.declared.event.Event.{Event}
 use Rattle.rules.specs.declared.event.Event.TheVariants.{Entered, Cancelled}
@@ -15,7 +16,7 @@ use Rattle.rules.specs.declared.security.Security.{Security}
 use Rattle.rules.specs.Orders.{order_at, first_place}
 use Rattle.rules.specs.Listing.{find_listed}
 use Rattle.rules.specs.Dealing.{waits_for, quoted_for, fits, stands_on, deal, meet, click_short, quote_short, hit, click, decide, decide_as, follow_events, entry_events}
-use Rattle.laws.specs.Dealings.{deals, NegotiatedLaw, ClickLaw, NumbersLaw}
+use Rattle.laws.specs.Dealings.{deals, StandingLaw, NegotiatedLaw, ClickLaw, NumbersLaw}
 use Rattle.laws.proofs.Singly.{few_quotes, quotes_apart}
 
 -- the events of an entry whose decision is known
@@ -33,6 +34,14 @@ told_click_short Sell n k l time = refl
 told_quote_short : (side : Side) (n k q time : ℕ) → follow_events time (quote_short side n k q) ≡ deals side n k q time ∷ (Cancelled k QuoteRest time ∷ [])
 told_quote_short Buy n k q time = refl
 told_quote_short Sell n k q time = refl
+
+pub standing_law : StandingLaw
+standing_law ss t o kind =
+    decided ss t o Wait
+    (⊎_elim
+    (λ (a : o.kind ≡ Intention). ap (λ (z : OrderKind). decide_as z ss t o) a)
+    (λ (a : o.kind ≡ FirmQuote). ap (λ (z : OrderKind). decide_as z ss t o) a)
+    kind)
 
 pub negotiated_law : NegotiatedLaw
 negotiated_law ss t o kind =

@@ -13,5 +13,6 @@ pub mod Taking
 pub mod Loading
 pub mod Firstly
 pub mod Following
+pub mod Ceasing
 pub mod Sizing
 pub mod Agreeing

@@ -1,23 +1,31 @@
--- What follows from an entry, case by case: which events, in which sequence, for which reason.
+-- What follows from an entry, a cancel and the close, case by case: which events, in which sequence, for which reason.
 --   deals side n k q time   the newcomer at place n, of that side, deals q with the order at place k
 --   NegotiatedFollows      a negotiated order waits, deals or is cancelled with the waiting one, which goes first
 --   ClickFollows           a click is cancelled alone, or deals the smaller quantity, and a rest is cancelled
+--   StandingLaw            an intention and a firm quote stand, and nothing else follows
+--   Withdraws              a cancel finds its order, which is withdrawn
+--   live_places            the places of the live orders, in the table's sequence
+--   CloseLaw               the close cancels these, each as closed, at the second 55,800
 --   QuotesNumbered         numbers of firm quotes differ, and none is below 1,000,000
-use Rattle.std.specs.Prelude.{◌≡◌, ℕ, ◌-◌, ◌<◌, ◌≤◌, true, false, ◌&&◌, List, [], ◌∷◌, length, Some, None, ◌==◌, ◌≢◌}
+use Rattle.std.specs.Prelude.{◌≡◌, ◌⊎◌, ℕ, ◌-◌, ◌<◌, ◌≤◌, true, false, ◌&&◌, List, [], ◌∷◌, length, map, filter, is_some, Ok, Some, None, ◌==◌, ◌≢◌}
+use Rattle.std.specs.List.{range_with_len}
 use Rattle.market.specs.declared.kinds.Side.{Side}
 use Rattle.market.specs.declared.kinds.Side.TheVariants.{Buy, Sell}
-use Rattle.market.specs.declared.kinds.OrderKind.TheVariants.{FirmQuote, Negotiated, Click}
-use Rattle.market.specs.declared.kinds.CancelReason.TheVariants.{QuoteRest, ClickRest, NoQuote, Mismatch}
+use Rattle.market.specs.declared.kinds.OrderKind.TheVariants.{Intention, FirmQuote, Negotiated, Click}
+use Rattle.market.specs.declared.kinds.CancelReason.TheVariants.{Withdrawn, QuoteRest, ClickRest, Close, NoQuote, Mismatch}
 use Rattle.market.specs.Figures.{quantity}
 use Rattle.rules.specs.declared.event.Event.{Event}
 use Rattle.rules.specs.declared.event.Event.TheVariants.{Entered, Dealt, Cancelled}
 use Rattle.rules.specs.declared.order.Order.{Order}
 use Rattle.rules.specs.declared.order.Standing.{Standing}
+use Rattle.rules.specs.declared.request.CancelOrder.{CancelOrder}
 use Rattle.rules.specs.declared.security.Security.{Security}
-use Rattle.rules.specs.Orders.{order_at, first_place}
+use Rattle.rules.specs.State.{State}
+use Rattle.rules.specs.Orders.{order_at, is_live, first_place}
 use Rattle.rules.specs.Listing.{find_listed}
 use Rattle.rules.specs.Checks.{is_kind}
-use Rattle.rules.specs.Dealing.{waits_for, quoted_for, fits, stands_on, entry_events}
+use Rattle.rules.specs.Dealing.{waits_for, quoted_for, fits, stands_on, entry_events, cancel_events, close_events}
+use Rattle.rules.specs.Calls.{target_of, cancel_answer}
 use Rattle.laws.specs.Single.{Numbered}
 
 abbrev pub deals : Side → ℕ → ℕ → ℕ → ℕ → Event
@@ -45,6 +53,23 @@ pub record ClickFollows (ss : List Security) (t : List Standing) (o : Order) : T
       entry_events ss t o ≡ Entered o ∷ (deals o.side (length t) k o.quantity.number o.time ∷ [])
   pub for_most : (k : ℕ) → first_place (quoted_for o) t ≡ Some k → fits o (order_at t k) ≡ true → o.quantity.number < (order_at t k).live.number → stands_on (find_listed ss o.security) (order_at t k).order ((order_at t k).live.number - o.quantity.number) ≡ false →
       entry_events ss t o ≡ Entered o ∷ (deals o.side (length t) k o.quantity.number o.time ∷ (Cancelled k QuoteRest o.time ∷ []))
+
+abbrev pub StandingLaw : Type 0
+StandingLaw = (ss : List Security) (t : List Standing) (o : Order) → (o.kind ≡ Intention) ⊎ (o.kind ≡ FirmQuote) → entry_events ss t o ≡ Entered o ∷ []
+
+-- the order that a cancel names is found, and withdrawn
+pub record Withdraws (s : State) (c : CancelOrder) : Type 0 where
+  pub found : is_some (target_of s c) ≡ true
+  pub follows : (k : ℕ) → target_of s c ≡ Some k → cancel_events (target_of s c) c.time ≡ Cancelled k Withdrawn c.time ∷ []
+
+abbrev pub CancelLaw : Type 0
+CancelLaw = (s : State) (c : CancelOrder) → cancel_answer s c ≡ Ok tt → Withdraws s c
+
+abbrev pub live_places : List Standing → List ℕ
+live_places t = filter (λ k. is_live (order_at t k)) (range_with_len 0 (length t))
+
+abbrev pub CloseLaw : Type 0
+CloseLaw = (t : List Standing) → close_events t ≡ map (λ k. Cancelled k Close 55800) (live_places t)
 
 abbrev pub NegotiatedLaw : Type 0
 NegotiatedLaw = (ss : List Security) (t : List Standing) (o : Order) → o.kind ≡ Negotiated → NegotiatedFollows ss t o

@@ -2,7 +2,8 @@
 --   Numbered t     each firm quote has the number 99,999,999 less the count of quotes before it
 --   Single t       at most one live negotiated order goes from a unit to a unit under a number
 --   Fewer t u      u has the orders of t, none with more live
---   Searches o t   at most one order answers either search of the order o
+--   SearchesSingle at most one order answers either search of an order
+--   EntriesSingle  an accepted entry keeps it so
 use Rattle.std.specs.Prelude.{◌≡◌, ℕ, ◌-◌, ◌<◌, ◌≤◌, true, List, length, take, Ok, count_by}
 use Rattle.market.specs.declared.kinds.OrderKind.TheVariants.{FirmQuote}
 use Rattle.rules.specs.declared.order.Order.{Order}

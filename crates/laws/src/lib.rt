@@ -3,7 +3,7 @@
 
 ghost use Rattle.laws.specs.Accepted.{EntriesValid, CancelsValid, PaymentsInValid, PaymentsOutValid, ClosesValid};
 ghost use Rattle.laws.specs.Agreed.{EntriesAgreed};
-ghost use Rattle.laws.specs.Dealings.{NegotiatedLaw, ClickLaw, NumbersLaw};
+ghost use Rattle.laws.specs.Dealings.{StandingLaw, NegotiatedLaw, ClickLaw, CancelLaw, CloseLaw, NumbersLaw};
 ghost use Rattle.laws.specs.Ending.{EntriesStrict};
 ghost use Rattle.laws.specs.First.{EntriesFirst, OrdersFirst};
 ghost use Rattle.laws.specs.Fitting.{PartInRange, LinesTaken};
@@ -93,9 +93,13 @@ pub fn numbers_are_dealt_once()
     ensures { EntriesAgreed }
 {}
 
-// Which events follow from an entry, in which sequence and for which reason; numbers of firm quotes differ.
+// Which events follow from an entry, a cancel and the close, in which sequence and for which reason; numbers of
+// firm quotes differ.
 pub fn what_follows_is_fixed()
+    ensures standing { StandingLaw }
     ensures negotiated { NegotiatedLaw }
     ensures clicks { ClickLaw }
+    ensures cancels { CancelLaw }
+    ensures closes { CloseLaw }
     ensures quotes { NumbersLaw }
 {}
