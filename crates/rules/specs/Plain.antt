@@ -1,7 +1,9 @@
 -- The plain day: who has how much live, told from the calls and which of them were accepted, and nothing else. It
 -- knows no ledger, tape, line, deal or reason, and no place in a table: an order is named by its unit and serial.
 --   Act              a call, as the plain day hears it
---   Plain            an order of the plain day: the order, and how much of it is live
+--   Day              the securities listed and the orders, each with how much of it is live
+--   leave p n t      the table t with n live of every order that passes the test p
+--   rest_of ss o x   what stays live of the quote x after the click o
 --   plain_after d a  the day after the accepted act a
 --   plain_day        the day after a list of acts, of which some were accepted
 use Rattle.std.specs.Prelude.{ℕ, ◌-◌, Bool, true, false, cond, List, [], ◌∷◌, ◌++◌}
