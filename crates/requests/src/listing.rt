@@ -1,7 +1,7 @@
-ghost use Rattle.std.specs.Prelude.{◌≡◌, is_ok, IfErr};
+ghost use Rattle.std.specs.Prelude.{◌≡◌, is_ok, IfErr, length, nat_lt};
 ghost use Rattle.rules.specs.declared.event.Refused.TheVariants.{List};
-ghost use Rattle.requests.specs.Lists.{told_entry};
-ghost use Rattle.rules.specs.Listing.{has_code, sound_entry, good_list, Faulty, security};
+ghost use Rattle.requests.specs.Lists.{told_entry, is_too_long};
+ghost use Rattle.rules.specs.Listing.{has_code, sound_entry, most_securities, good_list, Faulty, security};
 
 use crate::classing::{class_or_bond, fits_class};
 use market::{Figure, Price};
@@ -51,6 +51,7 @@ impl From<FaultyList> for Refused {
 pub fn check_list(list: &[ListEntry]) -> Result<(), FaultyList>
     ensures value { is_ok result ≡ good_list list.now }
     ensures fault { IfErr result (λ e. Faulty list.now (told_entry e)) }
+    ensures too_long { IfErr result (λ e. is_too_long e ≡ nat_lt most_securities (length list.now)) }
 {
     if list.len() > MOST_SECURITIES {
         return Err(FaultyList::TooLong);
