@@ -14,11 +14,10 @@ use Rattle.std.specs.declared.alloc.Global.{Global}
 use Rattle.market.specs.declared.refusal.Refusal.{Refusal}
 use Rattle.market.specs.declared.refusal.Refusal.TheVariants.{BadList}
 use Rattle.market.specs.Refusals.{refusal_number}
-use Rattle.rules.specs.declared.event.Refused.TheVariants.{Floor, List as list_refused, Ledger}
 use Rattle.sheet.specs.declared.fault.Fault.{Fault}
-use Rattle.answers.specs.Answers.{Answer}
+use Rattle.answers.specs.Answers.{Answer, sheet_refused}
 use Rattle.answers.specs.declared.answer.NotDone.{NotDone}
-use Rattle.answers.specs.declared.answer.NotDone.TheVariants.{Sheet, Call, Pair}
+use Rattle.answers.specs.declared.answer.NotDone.TheVariants.{Sheet, Floor, List as list_refused, Ledger, Pair}
 use Rattle.answers.specs.declared.words.Layer.{Layer}
 use Rattle.answers.specs.declared.words.Layer.TheVariants.{Sheet as by_sheet, Floor as by_floor, Ledger as by_ledger}
 use Rattle.answers.specs.declared.words.Notice.{Notice}
@@ -32,10 +31,10 @@ abbrev pub refused : Layer → Refusal → ℕ → Notice
 refused l e n = record { layer = l; refusal = e; figure = n }
 
 abbrev pub notice_of_refusal : NotDone → Notice
-notice_of_refusal (Sheet f) = refused by_sheet f.refusal f.field
-notice_of_refusal (Call (Floor e)) = refused by_floor e 0
-notice_of_refusal (Call (list_refused k)) = refused by_floor BadList k
-notice_of_refusal (Call (Ledger e i)) = refused by_ledger e i
+notice_of_refusal (Sheet e n) = refused by_sheet e n
+notice_of_refusal (Floor e) = refused by_floor e 0
+notice_of_refusal (list_refused k) = refused by_floor BadList k
+notice_of_refusal (Ledger e i) = refused by_ledger e i
 notice_of_refusal (Pair e i) = refused by_ledger e i
 
 abbrev pub notice_of : Answer → Result ℕ Notice
@@ -61,4 +60,4 @@ rows_text k (a ∷ as') = row_text k a ++ rows_text (k + 1) as'
 
 abbrev pub printed : Result (Vec Answer Global) Fault → List ℕ
 printed (Ok v) = rows_text 1 (vec_items v)
-printed (Err f) = row_text 0 (Err (Sheet f))
+printed (Err f) = row_text 0 (Err (sheet_refused f))

@@ -3,7 +3,6 @@ ghost use Rattle.answers.specs.Rows.{layer_text, notice_of_refusal};
 
 use crate::answer::NotDone;
 use market::Refusal;
-use rules::Refused;
 use std::fmt;
 
 // Who refuses.
@@ -40,12 +39,10 @@ impl From<NotDone> for Notice {
 
     fn from(not_done: NotDone) -> Notice {
         let (layer, refusal, figure) = match not_done {
-            NotDone::Sheet(fault) => (Layer::Sheet, fault.refusal, fault.field as u64),
-            NotDone::Call(Refused::Floor(refusal)) => (Layer::Floor, refusal, 0),
-            NotDone::Call(Refused::List(entry)) => (Layer::Floor, Refusal::BadList, entry as u64),
-            NotDone::Call(Refused::Ledger(refusal, item)) => {
-                (Layer::Ledger, refusal, u64::from(item))
-            }
+            NotDone::Sheet { refusal, field } => (Layer::Sheet, refusal, field as u64),
+            NotDone::Floor(refusal) => (Layer::Floor, refusal, 0),
+            NotDone::List(entry) => (Layer::Floor, Refusal::BadList, entry as u64),
+            NotDone::Ledger(refusal, item) => (Layer::Ledger, refusal, u64::from(item)),
             NotDone::Pair { refusal, item } => (Layer::Ledger, refusal, item),
         };
         Notice {

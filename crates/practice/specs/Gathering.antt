@@ -13,8 +13,7 @@ use Rattle.rules.specs.declared.security.ListEntry.{ListEntry}
 use Rattle.rules.specs.Listing.{most_securities}
 use Rattle.sheet.specs.declared.fault.Fault.{Fault}
 use Rattle.sheet.specs.Faults.{fault}
-use Rattle.answers.specs.Answers.{Answer}
-use Rattle.answers.specs.declared.answer.NotDone.TheVariants.{Sheet}
+use Rattle.answers.specs.Answers.{Answer, sheet_refused}
 
 abbrev pub most_figure : ℕ
 most_figure = 99999999
@@ -35,7 +34,7 @@ with_entry false e = None
 
 abbrev pub gather_answer : List ListEntry → ℕ → ℕ → ℕ → ℕ → Answer
 gather_answer g c k l h =
-    cond (writable c k l h) (cond (nat_lt (length g) most_securities) (Ok 0) (Err (Sheet (fault BadList 0)))) (Err (Sheet (fault OutOfRange 0)))
+    cond (writable c k l h) (cond (nat_lt (length g) most_securities) (Ok 0) (Err (sheet_refused (fault BadList 0)))) (Err (sheet_refused (fault OutOfRange 0)))
 
 abbrev pub gather_after : List ListEntry → ℕ → ℕ → ℕ → ℕ → List ListEntry
 gather_after g c k l h = cond (writable c k l h) (cond (nat_lt (length g) most_securities) (g ++ (list_entry c k l h ∷ [])) g) g

@@ -14,8 +14,8 @@ use Rattle.rules.specs.Steps.{Step, call, pair, Outcome, replied, moved}
 use Rattle.sheet.specs.declared.line.SetUp.{SetUp}
 use Rattle.sheet.specs.declared.line.SetUp.TheVariants.{OpenPair, OpenDay, CloseDay, Security, PayIn, DrawOut}
 use Rattle.sheet.specs.Told.{Told, order, cancel, set_up, refused}
-use Rattle.answers.specs.Answers.{Answer}
-use Rattle.answers.specs.declared.answer.NotDone.TheVariants.{Sheet, Call, Pair}
+use Rattle.answers.specs.Answers.{Answer, sheet_refused, call_refused}
+use Rattle.answers.specs.declared.answer.NotDone.TheVariants.{Pair}
 use Rattle.practice.specs.Requests.{entry_of, cancel_of, payment_of}
 use Rattle.practice.specs.Gathering.{gather_answer, gather_after}
 
@@ -35,7 +35,7 @@ abbrev pub task : List ListEntry → Told → Task
 task g (order o t c) = asks (call (enters (entry_of o)))
 task g (cancel x t) = asks (call (cancels (cancel_of x)))
 task g (set_up s t) = set_up_task g s
-task g (refused e) = settled (Err (Sheet e))
+task g (refused e) = settled (Err (sheet_refused e))
 
 abbrev pub set_up_gathers : List ListEntry → SetUp → List ListEntry
 set_up_gathers g (OpenPair a i) = g
@@ -61,7 +61,7 @@ steps_of g (t ∷ ts) = with_task (task g t) (steps_of (gathers g t) ts)
 
 abbrev pub reply_told : Reply → Answer
 reply_told (Ok n) = Ok n
-reply_told (Err e) = Err (Call e)
+reply_told (Err e) = Err (call_refused e)
 
 abbrev pub move_told : Moved → ℕ → Answer
 move_told (Ok x) i = Ok 0

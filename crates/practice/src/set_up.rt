@@ -17,7 +17,7 @@ use tape::Tape;
 pub(crate) fn reply_answer(reply: Result<usize, Refused>) -> Answer
     ensures { result ≡ reply_told reply }
 {
-    reply.map_err(NotDone::Call)
+    reply.map_err(NotDone::from)
 }
 
 fn pair_answer(moved: Result<(), Refusal>, item: u64) -> Answer
