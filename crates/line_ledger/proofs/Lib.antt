@@ -2,3 +2,4 @@ pub mod Summing
 pub mod Searching
 pub mod Writing
 pub mod Opened
+pub mod Ways
