@@ -1,6 +1,6 @@
 -- A move of one pair as a whole, by its check and its change: the answer, the book and what the records keep to.
 --   not_found, short, written   the three ways of such a move
---   lent_answer, lent_after     a move of records that were lent, in the records as they were before
+--   filled_kept, lent_answer, lent_after   what was done to records that were lent, in the list that lent them
 use Rattle.std.proofs.Common.{◌≡◌, ℕ, ◌<◌, ◌≤◌, List, ◌++◌, length, take, set, Ok, Err, sym, ap, ◌∙◌, subst, arith, take_all}
 use lib.Seq.{take-append-le}
 use Rattle.market.specs.declared.refusal.Refusal.{Refusal}
@@ -29,7 +29,7 @@ at_place : (rows : List PairRecord) (k a i : ℕ) → Kept rows → At rows k a 
 at_place rows k a i K P = look_at rows k a i K.apart P.inside P.account P.item
 
 -- a way that changes nothing
-refused : (e : Refusal) (rows : List PairRecord) (want : Answer) (after : Book) → Kept rows → want ≡ Err e → Out (Err e) rows want (when_done want after (look rows))
+pub refused : (e : Refusal) (rows : List PairRecord) (want : Answer) (after : Book) → Kept rows → want ≡ Err e → Out (Err e) rows want (when_done want after (look rows))
 refused e rows want after K h = record {
   answer = sym h;
   after = ap (λ (r : Answer). when_done r after (look rows)) (sym h);
@@ -45,14 +45,14 @@ done rows rows' want after h e K = record {
 }
 
 -- a write of a record whose figures are changed is an edit
-edit_row : (change : Change) (rows : List PairRecord) (k a i x : ℕ) (p : PairRecord) → Kept rows → At rows k a i → p.account ≡ a → p.item ≡ i → figures p ≡ change (figures (row rows k)) x → look (set rows k p) ≡ edit change (look rows) a i x
+pub edit_row : (change : Change) (rows : List PairRecord) (k a i x : ℕ) (p : PairRecord) → Kept rows → At rows k a i → p.account ≡ a → p.item ≡ i → figures p ≡ change (figures (row rows k)) x → look (set rows k p) ≡ edit change (look rows) a i x
 unfolding edit
 edit_row change rows k a i x p K P e d h =
     look_set rows k a i p K.apart P.inside P.account P.item e d
     ∙ ap (λ (f : Figures). put (look rows) a i f) h
     ∙ ap (λ (f : Figures). put (look rows) a i (change f x)) (sym (at_place rows k a i K P))
 
-edit_kept : (change : Change) (rows : List PairRecord) (k a i x : ℕ) (p : PairRecord) (g l u v : ℕ) → Kept rows → At rows k a i → p.account ≡ a → p.item ≡ i → figures p ≡ change (figures (row rows k)) x → Fair change (look rows) a i x g l u v → Kept (set rows k p)
+pub edit_kept : (change : Change) (rows : List PairRecord) (k a i x : ℕ) (p : PairRecord) (g l u v : ℕ) → Kept rows → At rows k a i → p.account ≡ a → p.item ≡ i → figures p ≡ change (figures (row rows k)) x → Fair change (look rows) a i x g l u v → Kept (set rows k p)
 edit_kept change rows k a i x p g l u v K P e d h F =
     kept_set rows k a i p K P.inside P.account P.item e d
     (subst Lawful (sym (edit_row change rows k a i x p K P e d h)) (edit_lawful change (look rows) a i x g l u v (kept_lawful rows K) F))
@@ -76,9 +76,13 @@ written change rows k a i x have need e p g l u v K P h ea ei ef F =
 filled : (n : ℕ) (ws zs : List PairRecord) → length ws ≡ n → take n (ws ++ zs) ≡ ws
 filled n ws zs e = take-append-le n ws zs (omega arith) ∙ take_all n ws (omega arith)
 
--- a move: the answer and the book, in the records as they were before they were lent
-pub lent_answer : (A : Book → Answer) (r : Answer) (xs ys : List PairRecord) → xs ≡ ys → r ≡ A (look xs) → r ≡ A (look ys)
-lent_answer A r xs ys v e = e ∙ ap (λ (x : List PairRecord). A (look x)) v
+pub filled_kept : (n : ℕ) (ws zs : List PairRecord) → length ws ≡ n → Kept ws → Kept (take n (ws ++ zs))
+filled_kept n ws zs e K = subst Kept (sym (filled n ws zs e)) K
 
-pub lent_after : (B : Book → Book) (n : ℕ) (xs ys ws zs : List PairRecord) → length ws ≡ n → xs ≡ ys → look ws ≡ B (look xs) → look (take n (ws ++ zs)) ≡ B (look ys)
-lent_after B n xs ys ws zs l v e = ap look (filled n ws zs l) ∙ e ∙ ap (λ (x : List PairRecord). B (look x)) v
+-- a move of the first u: the answer and the book, in the records as they were before they were lent
+pub lent_answer : (A : Book → Answer) (r : Answer) (xs ys : List PairRecord) (u : ℕ) → xs ≡ ys → r ≡ A (look (take u xs)) → r ≡ A (look (take u ys))
+lent_answer A r xs ys u v e = e ∙ ap (λ (x : List PairRecord). A (look (take u x))) v
+
+pub lent_after : (B : Book → Book) (n : ℕ) (xs ys ws zs : List PairRecord) (u : ℕ) → length ws ≡ n → xs ≡ ys → look (take u ws) ≡ B (look (take u xs)) → look (take u (take n (ws ++ zs))) ≡ B (look (take u ys))
+lent_after B n xs ys ws zs u l v e =
+    ap (λ (x : List PairRecord). look (take u x)) (filled n ws zs l) ∙ e ∙ ap (λ (x : List PairRecord). B (look (take u x))) v

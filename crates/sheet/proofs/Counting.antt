@@ -35,12 +35,23 @@ first k t l r x e says =
     ap (λ (y : Told). Some (record { place = k; line = y })) says
     ∙ sym (ap (λ ls. first_of (numbered next_place k ls)) (begun t ∙ ap lines_by (sym e)))
 
-pub step : (k : ℕ) (t l r : List ℕ) (x : Told) → Some (l, r) ≡ first_line t → x ≡ parsed l → k + length (lines t) ≤ 65537 → numbered next_place k (lines t) ≡ record { place = k; line = x } ∷ numbered next_place (k + 1) (lines r)
-step k t l r x e says few =
-    let room : k + 1 ≤ 18446744073709551615 = omega arith in
-    ap (numbered next_place k) (begun t ∙ ap lines_by (sym e))
-    ∙ ap (λ n. record { place = k; line = parsed l } ∷ numbered next_place n (lines r)) (min-eq_left room)
-    ∙ sym (λ i. record { place = k; line = says i } ∷ numbered next_place (k + 1) (lines r))
+-- the same for any count
+module _ (k n : ℕ) (t l r : List ℕ) (x : Told) (e : Some (l, r) ≡ first_line t) (says : x ≡ parsed l) (next : n ≡ next_place k) where
+  pub step : numbered next_place k (lines t) ≡ record { place = k; line = x } ∷ numbered next_place n (lines r)
+  step =
+      ap (numbered next_place k) (begun t ∙ ap lines_by (sym e))
+      ∙ sym (λ i. record { place = k; line = says i } ∷ numbered next_place (next i) (lines r))
+
+  pub answer : Some (record { place = k; line = x }) ≡ first_of (numbered next_place k (lines t))
+  answer = sym (ap first_of step)
+
+  pub after : numbered next_place n (lines r) ≡ rest_of (numbered next_place k (lines t))
+  after = sym (ap rest_of step)
+
+-- the same for a reader, whose places are few
+pub step_within : (k : ℕ) (t l r : List ℕ) (x : Told) → Some (l, r) ≡ first_line t → x ≡ parsed l → k + length (lines t) ≤ 65537 → numbered next_place k (lines t) ≡ record { place = k; line = x } ∷ numbered next_place (k + 1) (lines r)
+step_within k t l r x e says few =
+    let room : k + 1 ≤ 18446744073709551615 = omega arith in step k (k + 1) t l r x e says (sym (min-eq_left room))
 
 -- no line is left
 pub none_left : (k : ℕ) (t : List ℕ) → None ≡ first_line t → numbered next_place k (lines t) ≡ []

@@ -30,7 +30,7 @@ impl<'a> Reader<'a> {
     }
 
     // Hands out the next line with its place, or `None` where all are handed out.
-    #[tactic(auto, using(crate::proofs::Counting::step, crate::proofs::Counting::none_left, crate::proofs::Counting::one_fewer), unfolding(crate::specs::Handing::left))]
+    #[tactic(auto, using(crate::proofs::Counting::step_within, crate::proofs::Counting::none_left, crate::proofs::Counting::one_fewer), unfolding(crate::specs::Handing::left))]
     pub fn next_line(&mut self) -> Option<Numbered<'a>>
         ensures answer { option_map handed result ≡ first_of (left self.old) }
         ensures after { left self.new ≡ rest_of (left self.old) }
