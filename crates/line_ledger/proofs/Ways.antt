@@ -76,8 +76,8 @@ written change rows k a i x have need e p g l u v K P h ea ei ef F =
 filled : (n : ℕ) (ws zs : List PairRecord) → length ws ≡ n → take n (ws ++ zs) ≡ ws
 filled n ws zs e = take-append-le n ws zs (omega arith) ∙ take_all n ws (omega arith)
 
-pub filled_kept : (n : ℕ) (ws zs : List PairRecord) → length ws ≡ n → Kept ws → Kept (take n (ws ++ zs))
-filled_kept n ws zs e K = subst Kept (sym (filled n ws zs e)) K
+pub filled_kept : (n u : ℕ) (ws zs : List PairRecord) → length ws ≡ n → Kept (take u ws) → Kept (take u (take n (ws ++ zs)))
+filled_kept n u ws zs e K = subst (λ (x : List PairRecord). Kept (take u x)) (sym (filled n ws zs e)) K
 
 -- a move of the first u: the answer and the book, in the records as they were before they were lent
 pub lent_answer : (A : Book → Answer) (r : Answer) (xs ys : List PairRecord) (u : ℕ) → xs ≡ ys → r ≡ A (look (take u xs)) → r ≡ A (look (take u ys))
